@@ -1,0 +1,4 @@
+pub mod Adding
+pub mod Figures
+pub mod Orders
+pub mod Table

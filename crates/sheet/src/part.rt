@@ -1,0 +1,12 @@
+ghost use Prim.Native.Nat.{_≤_};
+use crate::grade::Grade;
+
+mod methods;
+
+// A part on a sheet: its grade, and its price in cents.
+#[derive(Clone, Copy)]
+pub struct Part {
+    grade: Grade,
+    cents: u32,
+    ghost priced: { cents ≤ 99_999_999 },
+}

@@ -1,0 +1,6 @@
+pub mod Bits
+pub mod Masses
+pub mod Sets
+pub mod Sheets
+pub mod Steps
+pub mod Sums

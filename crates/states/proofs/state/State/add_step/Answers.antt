@@ -1,0 +1,16 @@
+use Prim.Native.Nat.{_<_}
+use native.Mathlib.Omega.{arith}
+use Rattle.sheet.specs.Parts.{count-of}
+use Rattle.states.proofs.Sheets.{few-parts}
+use Rattle.states.proofs.Steps.{add-fits, add-is}
+use Rattle.states.proofs.state.State.add_step.Needs as need
+
+pub ghost-result : need.ghost-result
+ghost-result c =
+    let s = c .args .sheet .now in
+    (add-fits (count-of s) (c .args .self .number) _ _ _ (few-parts s) (c .low .ensures) (c .greatest-greatest .ensures .value) (c .power .ensures) (omega arith), tt)
+
+pub returns : need.returns
+returns c =
+    let s = c .args .sheet .now in
+    add-is (count-of s) (c .args .self .number) _ _ _ (few-parts s) (c .low .ensures) (c .greatest-greatest .ensures .value) (c .power .ensures) (omega arith)

@@ -1,0 +1,25 @@
+use mathlib.Core.Path.{_≡_, refl, sym, _∙_, ap}
+use Prim.Native.Nat.{_≤_, _<_}
+use native.Mathlib.Omega.{arith}
+use borrow.Author.Needs.{needs}
+use lib.Dec.{lit≤}
+use lib.ListN.{length, getD}
+use Rattle.std.proofs.shelf.Lists.{getD-map}
+use Rattle.sheet.specs.Parts.{figures-of, figure-of, parts-of}
+use Rattle.states.specs.Masses.{after}
+use Rattle.states.proofs.Masses.{after-more}
+use Rattle.states.proofs.state.State.left_after.Needs as need
+
+pub loop-l-holds : need.loop-l-holds
+unfolding after
+loop-l-holds c = (refl, lit≤ tt)
+
+pub loop-l-again : need.loop-l-again
+loop-l-again c =
+    let parts = parts-of (c .args .sheet .now) in
+    let l = c .loop-l .l in
+    let part = c .index-parts-l .result in
+    let read = c .index-parts-l .is ∙ ap (λ ps. getD ps l part) (c .parts-parts .ensures .value) in
+    let within : l < length parts = omega arith in
+    let figure = c .failure-ppm .ensures .value ∙ ap figure-of read ∙ sym (getD-map figure-of parts l part 0 within) in
+    (after-more _ l _ _ _ _ figure (c .loop-l .inv .0) (c .remaining-left .ensures .value), omega arith)

@@ -1,0 +1,5 @@
+pub mod Answers
+pub mod Masses
+pub mod Sets
+pub mod Steps
+pub mod Sums

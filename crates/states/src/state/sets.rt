@@ -1,0 +1,82 @@
+ghost use mathlib.Core.Path.{_≡_};
+ghost use mathlib.Core.Bool.{true, not, _&&_, _||_};
+ghost use Prim.Native.Nat.{ℕ, pred, _<_, _^_, _%_};
+ghost use lib.Dec.{eqb};
+ghost use Rattle.states.specs.Sets.{has, with-part, without-part, union, within};
+use super::State;
+use super::power;
+use sheet::PartNumber;
+
+// What the part adds to the number of a set.
+fn place(part: PartNumber) -> u64
+    ensures { λ r. ⌜ r ≡ 2 ^ pred (part .number) ⌝ }
+{
+    power(part.number() as usize - 1)
+}
+
+impl State {
+    // The state of a number, of which the lowest 40 binary places count.
+    pub fn new(number: u64) -> State
+        ensures { λ r. ⌜ r .number ≡ number % 2 ^ 40 ⌝ }
+    {
+        State {
+            number: number % (1 << 40),
+        }
+    }
+
+    pub fn number(self) -> u64
+        ensures value { λ r. ⌜ r ≡ self .number ⌝ }
+        ensures parts { λ r. ⌜ r < 2 ^ 40 ⌝ }
+    {
+        self.number
+    }
+
+    // Whether the part is in the set.
+    pub fn contains(self, part: PartNumber) -> bool
+        ensures { λ r. ⌜ r ≡ has (part .number) (self .number) ⌝ }
+    {
+        (self.number >> (part.number() - 1)) % 2 == 1
+    }
+
+    // The set with the part as well.
+    pub fn with(self, part: PartNumber) -> State
+        ensures value { λ r. ⌜ r .number ≡ with-part (part .number) (self .number) ⌝ }
+        ensures parts { λ r. ⌜ ((j : ℕ) → 0 < j → has j (r .number) ≡ (eqb j (part .number) || has j (self .number))) ⌝ }
+    {
+        State {
+            number: self.number | place(part),
+        }
+    }
+
+    // The set without the part.
+    pub fn without(self, part: PartNumber) -> State
+        ensures value { λ r. ⌜ r .number ≡ without-part (part .number) (self .number) ⌝ }
+        ensures parts { λ r. ⌜ ((j : ℕ) → 0 < j → has j (r .number) ≡ (not (eqb j (part .number)) && has j (self .number))) ⌝ }
+    {
+        if !self.contains(part) {
+            return self;
+        }
+        State {
+            number: self.number - place(part),
+        }
+    }
+
+    // The parts of both sets.
+    pub fn union(self, other: State) -> State
+        ensures value { λ r. ⌜ r .number ≡ union (self .number) (other .number) ⌝ }
+        ensures parts { λ r. ⌜ ((j : ℕ) → has j (r .number) ≡ (has j (self .number) || has j (other .number))) ⌝ }
+    {
+        State {
+            number: self.number | other.number,
+        }
+    }
+
+    // Whether every part of this set is in the other.
+    pub fn is_within(self, other: State) -> bool
+        ensures value { λ r. ⌜ r ≡ within (self .number) (other .number) ⌝ }
+        ensures parts { λ r. ⌜ (r ≡ true → (j : ℕ) → has j (self .number) ≡ true → has j (other .number) ≡ true) ⌝ }
+        ensures all_parts { λ r. ⌜ (((j : ℕ) → has j (self .number) ≡ true → has j (other .number) ≡ true) → r ≡ true) ⌝ }
+    {
+        self.number & other.number == self.number
+    }
+}
