@@ -8,7 +8,7 @@ use borrow.Author.Tests.{eq-eqb, ne-eqb, eqb-true, eqb-false}
 use lib.Bits.{bitAnd, bitOr, bitXor, or-disjoint, and-le-r, xor-add-and, and-comm}
 use lib.Dec.{eqb}
 use Rattle.std.proofs.shelf.Tests.{cases-eq, and-left, and-right, or-right}
-use Rattle.states.specs.Sets.{bit, has, with-part, without-part, Within}
+use Rattle.states.specs.Sets.{bit, has, with-part, without-part, Within, disjoint}
 use Rattle.states.proofs.Bits.{bit-and, bit-or, bit-xor, bit-power, bit-nothing, same-bits}
 
 xor-self : xor true true ≡ false
@@ -97,3 +97,26 @@ has-with i x r h made j g = ap (has j) made ∙ bit-with i (pred j) x ∙ ap (λ
 
 pub has-without : (i x r : ℕ) → 0 < i → r ≡ without-part i x → (j : ℕ) → 0 < j → has j r ≡ (not (eqb j i) && has j x)
 has-without i x r h made j g = ap (has j) made ∙ bit-without i (pred j) x ∙ ap (λ b. not b && has j x) (same-part i j h g)
+
+-- sets that share no part
+pub disjoint-bit : (x y k : ℕ) → disjoint x y ≡ true → bit k x ≡ true → bit k y ≡ false
+disjoint-bit x y k d h = ap (λ b. b && bit k y) (sym h) ∙ sym (bit-and k x y) ∙ ap (bit k) (eqb-true _ _ d) ∙ bit-nothing k
+
+pub disjoint-from : (x y : ℕ) → ((k : ℕ) → bit k x ≡ true → bit k y ≡ false) → disjoint x y ≡ true
+disjoint-from x y f =
+    eq-eqb _ _ (same-bits (bitAnd x y) 0 (λ k. bit-and k x y ∙ go (bit k x) (bit k y) (f k) ∙ sym (bit-nothing k)))
+  where
+    go : (a b : Bool) → (a ≡ true → b ≡ false) → (a && b) ≡ false
+    go true b h = h refl
+    go false b h = refl
+
+-- what is sound in a state is sound in every state that it contains
+pub sound-within : (x y k : ℕ) → Within x y → bit k y ≡ false → bit k x ≡ false
+sound-within x y k w h = go (bit k x) (within-bit x y k w)
+  where
+    go : (a : Bool) → (a ≡ true → bit k y ≡ true) → a ≡ false
+    go true f = sym (f refl) ∙ h
+    go false f = refl
+
+pub disjoint-within : (p x y : ℕ) → Within x y → disjoint p y ≡ true → disjoint p x ≡ true
+disjoint-within p x y w d = disjoint-from p x (λ k h. sound-within x y k w (disjoint-bit p y k d h))

@@ -31,3 +31,7 @@ Within x y = bitAnd x y ≡ x
 
 abbrev pub within : ℕ → ℕ → Bool
 within x y = eqb (bitAnd x y) x
+
+-- no part of x is in y
+abbrev pub disjoint : ℕ → ℕ → Bool
+disjoint x y = eqb (bitAnd x y) 0

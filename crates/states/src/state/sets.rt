@@ -1,8 +1,8 @@
 ghost use mathlib.Core.Path.{_≡_};
-ghost use mathlib.Core.Bool.{true, not, _&&_, _||_};
+ghost use mathlib.Core.Bool.{true, false, not, _&&_, _||_};
 ghost use Prim.Native.Nat.{ℕ, pred, _<_, _^_, _%_};
 ghost use lib.Dec.{eqb};
-ghost use Rattle.states.specs.Sets.{has, with-part, without-part, union, within};
+ghost use Rattle.states.specs.Sets.{has, with-part, without-part, union, within, disjoint};
 use super::State;
 use super::power;
 use sheet::PartNumber;
@@ -78,5 +78,14 @@ impl State {
         ensures all_parts { λ r. ⌜ (((j : ℕ) → has j (self .number) ≡ true → has j (other .number) ≡ true) → r ≡ true) ⌝ }
     {
         self.number & other.number == self.number
+    }
+
+    // Whether no part of this set is in the other.
+    pub fn is_disjoint(self, other: State) -> bool
+        ensures value { λ r. ⌜ r ≡ disjoint (self .number) (other .number) ⌝ }
+        ensures parts { λ r. ⌜ (r ≡ true → (j : ℕ) → has j (self .number) ≡ true → has j (other .number) ≡ false) ⌝ }
+        ensures all_parts { λ r. ⌜ (((j : ℕ) → has j (self .number) ≡ true → has j (other .number) ≡ false) → r ≡ true) ⌝ }
+    {
+        self.number & other.number == 0
     }
 }

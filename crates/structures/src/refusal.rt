@@ -1,0 +1,21 @@
+ghost use mathlib.Core.Path.{_≡_};
+ghost use Rattle.structures.specs.declared.refusal.PathListError.the-variants.{OutOfMemory};
+use std::alloc::AllocError;
+use std::alloc::Refused;
+
+// Why a list of numbers is no path list.
+#[derive(Clone, Copy, Debug, PartialEq, Eq)]
+pub enum PathListError {
+    TooManyPaths,
+    // The path at this place, counted from 0, has a part above 40.
+    PartTooHigh(usize),
+    OutOfMemory,
+}
+
+pub impl From<AllocError> for PathListError as PathListErrorFromAlloc {
+    ghost converts = { λ _ e. e ≡ OutOfMemory };
+
+    fn from(_error: AllocError) -> PathListError {
+        PathListError::OutOfMemory
+    }
+}
