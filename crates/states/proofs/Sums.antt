@@ -1,7 +1,7 @@
 -- Sums over the numbers below m. Assumes nothing.
 use mathlib.Core.Path.{_≡_, refl, sym, _∙_, ap, ap₂}
 use mathlib.Core.Bool.{Bool, true, false, cond}
-use Prim.Native.Nat.{ℕ, zero, suc, _+_, _<_, _≤_}
+use Prim.Native.Nat.{ℕ, zero, suc, _+_, _-_, _<_, _≤_}
 use native.Mathlib.Omega.{arith}
 use mathlib.Core.Logic.{⊎-elim}
 use Rattle.std.proofs.shelf.Tests.{cases-eq}
@@ -40,3 +40,15 @@ sum-one (suc m) y h l rest =
 
     below : (m ≡ y → ⊥) → sum-below m h ≡ h y → sum-below (suc m) h ≡ h y
     below ne e = omega (arith, rest m (omega arith) ne, e)
+
+pub sum-grows : (a b : ℕ) (h : ℕ → ℕ) → a ≤ b → sum-below a h ≤ sum-below b h
+sum-grows a b h le = let e : a + (b - a) ≡ b = omega arith in omega (arith, rw e at (sum-split a (b - a) h))
+
+-- the numbers below m, and m
+pub sum-more : (m : ℕ) (h : ℕ → ℕ) → sum-below m h + h m ≡ sum-below (m + 1) h
+unfolding sum-below
+sum-more m h = let e : m + 1 ≡ suc m = omega arith in rw e (omega arith)
+
+pub sum-none : (h : ℕ → ℕ) → 0 ≡ sum-below 0 h
+unfolding sum-below
+sum-none h = refl

@@ -1,3 +1,4 @@
 pub mod Meanings
 pub mod Paths
 pub mod Refusals
+pub mod Reliability
