@@ -1,4 +1,3 @@
-pub mod Adding
 pub mod Figures
 pub mod Orders
 pub mod Table

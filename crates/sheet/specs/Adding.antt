@@ -2,7 +2,7 @@
 use mathlib.Core.Path.{_≡_}
 use mathlib.Core.List.{List, [], _∷_, _++_, map}
 use mathlib.Core.Bool.{cond, _||_}
-use Prim.Native.Nat.{ℕ, suc}
+use Prim.Native.Nat.{ℕ, suc, _<_, _≤_}
 use lib.Dec.{leb, ltb, eqb}
 use lib.ListN.{length}
 use Rattle.std.specs.declared.result.Result.{Result}
@@ -31,6 +31,16 @@ adding-refused ps grade cents =
     (cond (ltb 39 grade) (2 ∷ [])
     (cond (ltb 99999999 cents) (3 ∷ [])
     (cond (ltb grade (last-or 0 (map grade-of ps))) (4 ∷ []) [])))
+
+-- p is a part of this grade and price that the parts ps may take, or it is refused
+abbrev pub Admitted : List Part → ℕ → ℕ → Result Part AddError → Type 0
+Admitted ps grade cents (Ok p) =
+    (adding-refused ps grade cents ≡ [])
+    × (grade-of p ≡ grade)
+    × (p .cents ≡ cents)
+    × (length ps < 40)
+    × (last-or 0 (map grade-of ps) ≤ grade-of p)
+Admitted ps grade cents (Err e) = add-refusal e ≡ adding-refused ps grade cents
 
 -- a part of this grade and price comes after the parts ps, which then are ps′, and has the next number;
 -- or it is refused, for its own fault or for want of memory, and the parts stay

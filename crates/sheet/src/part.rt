@@ -6,7 +6,7 @@ mod methods;
 // A part on a sheet: its grade, and its price in cents.
 #[derive(Clone, Copy)]
 pub struct Part {
-    grade: Grade,
-    cents: u32,
+    pub grade: Grade,
+    pub cents: u32,
     ghost priced: { cents ≤ 99_999_999 },
 }

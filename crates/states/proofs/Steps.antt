@@ -12,8 +12,9 @@ use lib.Dec.{ltb}
 use lib.ListN.{length}
 use lib.Pow.{pow-pos, pow-mono}
 use Rattle.std.proofs.shelf.Tests.{cases-lt, cond-true, cond-false, cond-both, and-parts, and-from}
+use Rattle.states.specs.Masses.{after}
 use Rattle.states.specs.Sets.{bit, with-part, without-part}
-use Rattle.states.specs.Steps.{low, top, add-step, move-step, share, agreeing-masses, Leads, Parent}
+use Rattle.states.specs.Steps.{low, top, add-step, move-step, agreeing-masses, Leads, Parent}
 use Rattle.states.proofs.Masses.{Figures, spread}
 use Rattle.states.proofs.Bits.{bit-beyond, bit-highest, low-more}
 
@@ -207,12 +208,11 @@ top-leading n x h =
     let e = leading-unique 64 (low n x) (64 - top n x) (top n x) (omega arith) (low-below n x) (low-reaches n x) in
     omega arith
 
--- the share of a state, by masses
-pub share-is : (qs : List ℕ) → Figures qs → (x : ℕ) → share qs x ≡ agreeing-masses qs x
-share-is qs fig x =
+-- what is left after part l, by masses
+pub left-is : (qs : List ℕ) → Figures qs → (l x : ℕ) → l ≤ length qs → after qs l x ≡ agreeing-masses qs l x
+unfolding agreeing-masses
+left-is qs fig l x le =
     let n = length qs in
-    let l = top n x in
-    let le = top-le n x in
     let e : (n - l) + l ≡ n = omega arith in
     sym (rw e at (spread qs fig l x (n - l)))
 
@@ -226,23 +226,21 @@ module _ (n x z g p : ℕ) (few : n ≤ 40) (z-is : z ≡ low n x) (g-is : g ≡
       let power : p ≡ 2 ^ top n x = e ∙ ap (λ k. 2 ^ k) g-is in
       on-forty (z + p) (omega (arith, add-within n x (omega arith)))
 
-  pub add-is : p ≡ 2 ^ g → g < n → (z + p) ∷ [] ≡ add-step n x
-  add-is e h =
+  pub add-is : p ≡ 2 ^ g → z + p ≡ with-part (suc g) (low n x)
+  add-is e =
       let power : p ≡ 2 ^ top n x = e ∙ ap (λ k. 2 ^ k) g-is in
-      let number : z + p ≡ with-part (suc (top n x)) (low n x) = omega (arith, add-number n x) in
-      ap (λ y. y ∷ []) number ∙ sym (cond-true (ltb (top n x) n) _ _ (lt-ltb (top n x) n (omega arith)))
+      rw g-is (omega (arith, add-number n x))
 
   pub move-fits : p ≡ 2 ^ (g - 1) → 0 < g → g < n → z + p < 2 ^ 40
   move-fits e some h =
       let m : ℕ = g - 1 in
       on-forty (z + p) (omega (arith, move-within n x m (omega arith) (omega arith)))
 
-  pub move-is : p ≡ 2 ^ (g - 1) → 0 < g → g < n → (z + p) ∷ [] ≡ move-step n x
-  move-is e some h =
+  pub move-is : p ≡ 2 ^ (g - 1) → 0 < g → z + p ≡ with-part (suc g) (without-part g (low n x))
+  move-is e some =
       let m : ℕ = g - 1 in
       let number : z + p ≡ with-part (suc (top n x)) (without-part (top n x) (low n x)) = omega (arith, move-number n x m (omega arith)) in
-      ap (λ y. y ∷ []) number
-      ∙ sym (cond-true (ltb 0 (top n x) && ltb (top n x) n) _ _ (and-from _ _ (lt-ltb 0 (top n x) (omega arith)) (lt-ltb (top n x) n (omega arith))))
+      rw g-is number
 
   pub low-fits : z < 2 ^ 40
   low-fits = on-forty z (omega (arith, mod-lt x (pow-pos n)))

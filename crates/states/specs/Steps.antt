@@ -46,6 +46,6 @@ pub record Parent (n y x : ℕ) : Type 0 where
 abbrev pub share : List ℕ → ℕ → ℕ
 share qs x = after qs (top (length qs) x) x
 
--- the masses, summed, of x and all states of the sheet that agree with it up to its greatest part
-abbrev pub agreeing-masses : List ℕ → ℕ → ℕ
-agreeing-masses qs x = sum-below (2 ^ length qs) (λ y. cond (agrees (top (length qs) x) x y) (mass qs y) 0)
+-- the masses, summed, of all states of the sheet that agree with x up to part l
+unfoldable pub agreeing-masses : List ℕ → ℕ → ℕ → ℕ
+agreeing-masses qs l x = sum-below (2 ^ length qs) (λ y. cond (agrees l x y) (mass qs y) 0)

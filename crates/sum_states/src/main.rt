@@ -5,9 +5,9 @@ mod stations;
 use show::print_sheet;
 use show::print_states;
 use show::print_sums;
-use std::error::AnyError;
 use stations::cabinet;
 use stations::small_station;
+use std::error::AnyError;
 use structures::FeedStructure;
 use structures::PathListStructure;
 

@@ -9,16 +9,20 @@ pub fn print_sheet(rt: &LibcRuntime, sheet: &Sheet) -> Result<(), AnyError> {
     println!(rt, "part,grade,ppm,cents")?;
     for (place, part) in sheet.parts().iter().enumerate() {
         let number = place + 1;
-        let grade = part.grade().number();
+        let grade = part.grade.number();
         let ppm = part.failure_ppm();
-        let cents = part.cents();
+        let cents = part.cents;
         println!(rt, "{number},{grade},{ppm},{cents}")?;
     }
     Ok(())
 }
 
 // A line for each state of the sheet: number, mass, verdict.
-pub fn print_states<S: Structure>(rt: &LibcRuntime, sheet: &Sheet, pile: &S) -> Result<(), AnyError> {
+pub fn print_states<S: Structure>(
+    rt: &LibcRuntime,
+    sheet: &Sheet,
+    pile: &S,
+) -> Result<(), AnyError> {
     println!(rt, "state,mass,verdict")?;
     for number in 0..1u64 << sheet.count() {
         let state = State::new(number);

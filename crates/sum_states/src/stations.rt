@@ -7,7 +7,12 @@ use structures::Feed;
 use structures::PathList;
 
 // A station of this feed over these paths, on a sheet of parts with these grades and prices.
-fn station(heap: Global, parts: &[(u8, u32)], paths: &[u64], feed: u8) -> Result<(Sheet, Feed<PathList>), AnyError> {
+fn station(
+    heap: Global,
+    parts: &[(u8, u32)],
+    paths: &[u64],
+    feed: u8,
+) -> Result<(Sheet, Feed<PathList>), AnyError> {
     let mut draft = Draft::new(heap);
     for (grade, cents) in parts {
         let Ok(_) = draft.add(*grade, *cents) else {

@@ -1,6 +1,6 @@
 // The reliability of a small station, summed over all states of its sheet.
-mod sums;
 mod summing;
+mod sums;
 
 pub use summing::sum_states;
 pub use sums::SumError;

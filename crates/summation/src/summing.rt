@@ -1,6 +1,5 @@
 ghost use Rattle.sheet.specs.Parts.{figures-of};
 ghost use Rattle.summation.specs.Summed.{Summed};
-
 use crate::sums::SumError;
 use crate::sums::Sums;
 use sheet::Sheet;
@@ -15,7 +14,10 @@ pub fn sum_states<S: Structure>(sheet: &Sheet, pile: &S) -> Result<Sums, SumErro
     if count > 20 {
         return Err(SumError::TooManyParts);
     }
-    let mut sums = Sums { working: 0, failing: 0 };
+    let mut sums = Sums {
+        working: 0,
+        failing: 0,
+    };
     for number in 0..1u64 << count {
         let state = State::new(number);
         sums = sums.with(state.mass(sheet), pile.works_in(state));

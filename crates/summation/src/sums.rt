@@ -25,9 +25,15 @@ impl Sums {
         ensures failing { λ r. ⌜ r .failing ≡ self .failing + cond works 0 mass ⌝ }
     {
         if works {
-            Sums { working: self.working + mass, failing: self.failing }
+            Sums {
+                working: self.working + mass,
+                failing: self.failing,
+            }
         } else {
-            Sums { working: self.working, failing: self.failing + mass }
+            Sums {
+                working: self.working,
+                failing: self.failing + mass,
+            }
         }
     }
 

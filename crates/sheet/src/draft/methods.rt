@@ -1,7 +1,11 @@
 ghost use mathlib.Core.Path.{_≡_};
-ghost use mathlib.Core.List.{[], map};
-ghost use Rattle.sheet.specs.Adding.{Added};
+ghost use mathlib.Core.List.{[], _∷_, _++_, map};
+ghost use Prim.Native.Nat.{_<_, _≤_};
+ghost use lib.ListN.{length};
+ghost use Rattle.std.specs.Results.{Cases};
+ghost use Rattle.sheet.specs.Adding.{Admitted, Added};
 ghost use Rattle.sheet.specs.Orders.{last-or};
+ghost use Rattle.sheet.specs.declared.refusal.AddError.the-variants.{OutOfMemory};
 ghost use Rattle.sheet.specs.Parts.{drafted, parts-of, grade-of};
 use super::Draft;
 use crate::grade::Grade;
@@ -27,17 +31,16 @@ impl Draft {
         ensures { λ r. ⌜ r ≡ last-or 0 (map grade-of (drafted (now (self .entry)))) ⌝ }
     {
         match self.parts.last() {
-            Some(part) => part.grade().number(),
+            Some(part) => part.grade.number(),
             None => 0,
         }
     }
 
-    // Adds a part of this grade and price, and answers its number, the next one. A refusal leaves the draft as it was.
-    pub fn add(&mut self, grade: u8, cents: u32) -> Result<PartNumber, AddError>
-        ensures { λ r. ⌜ Added (drafted (now (self .entry))) grade cents r (drafted (now (self .exit))) ⌝ }
+    // The part of this grade and price, if the draft may take it.
+    fn admitted(&self, grade: u8, cents: u32) -> Result<Part, AddError>
+        ensures { λ r. ⌜ Admitted (drafted (now (self .entry))) grade cents r ⌝ }
     {
-        let count = self.parts.len();
-        if count >= 40 {
+        if self.parts.len() >= 40 {
             return Err(AddError::SheetFull);
         }
         let Some(known) = Grade::new(grade) else {
@@ -49,7 +52,26 @@ impl Draft {
         if grade < self.last_grade() {
             return Err(AddError::GradeFalls);
         }
-        self.parts.push(Part::new(known, cents))?;
+        Ok(Part::new(known, cents))
+    }
+
+    // Puts the part after the others, unless memory is wanting.
+    fn keep(&mut self, part: Part) -> Result<(), AddError>
+        requires few { ⌜ length (drafted (now self)) < 40 ⌝ }
+        requires ordered { ⌜ last-or 0 (map grade-of (drafted (now self))) ≤ grade-of part ⌝ }
+        ensures { λ r. ⌜ Cases r (λ _. drafted (now (self .exit)) ≡ drafted (now (self .entry)) ++ part ∷ []) (λ e. (e ≡ OutOfMemory) × (drafted (now (self .exit)) ≡ drafted (now (self .entry)))) ⌝ }
+    {
+        self.parts.push(part)?;
+        Ok(())
+    }
+
+    // Adds a part of this grade and price, and answers its number, the next one. A refusal leaves the draft as it was.
+    pub fn add(&mut self, grade: u8, cents: u32) -> Result<PartNumber, AddError>
+        ensures { λ r. ⌜ Added (drafted (now (self .entry))) grade cents r (drafted (now (self .exit))) ⌝ }
+    {
+        let count = self.parts.len();
+        let part = self.admitted(grade, cents)?;
+        self.keep(part)?;
         Ok(PartNumber::after(count as u8))
     }
 

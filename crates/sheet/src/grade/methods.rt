@@ -48,6 +48,15 @@ const FAILURE_PPM: [u32; 40] = [
     63,
 ];
 
+// The entry of a grade.
+fn entry(grade: u8) -> u32
+    requires { ⌜ grade ≤ 39 ⌝ }
+    ensures value { λ r. ⌜ r ≡ figure grade ⌝ }
+    ensures preferred { λ _. ⌜ Preferred figure ⌝ }
+{
+    FAILURE_PPM[grade as usize]
+}
+
 impl Grade {
     pub const HIGHEST: u8 = 39;
 
@@ -73,6 +82,6 @@ impl Grade {
         ensures value { λ r. ⌜ r ≡ figure (self .number) ⌝ }
         ensures preferred { λ _. ⌜ Preferred figure ⌝ }
     {
-        FAILURE_PPM[self.number as usize]
+        entry(self.number)
     }
 }

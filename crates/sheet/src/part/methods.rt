@@ -15,19 +15,6 @@ impl Part {
         Part { grade, cents }
     }
 
-    pub fn grade(self) -> Grade
-        ensures { λ r. ⌜ r ≡ self .grade ⌝ }
-    {
-        self.grade
-    }
-
-    pub fn cents(self) -> u32
-        ensures value { λ r. ⌜ r ≡ self .cents ⌝ }
-        ensures priced { λ r. ⌜ r ≤ 99_999_999 ⌝ }
-    {
-        self.cents
-    }
-
     // The part's failure probability in parts per million.
     pub fn failure_ppm(self) -> u32
         ensures value { λ r. ⌜ r ≡ figure-of self ⌝ }

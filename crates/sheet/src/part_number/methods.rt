@@ -1,5 +1,5 @@
 ghost use mathlib.Core.Path.{_≡_};
-ghost use Prim.Native.Nat.{_+_, _≤_, _<_};
+ghost use Prim.Native.Nat.{pred, _+_, _≤_, _<_};
 ghost use Rattle.sheet.specs.Adding.{Numbered};
 use super::PartNumber;
 use crate::refusal::PartNumberError;
@@ -21,6 +21,14 @@ impl PartNumber {
         ensures to_forty { λ r. ⌜ r ≤ 40 ⌝ }
     {
         self.number
+    }
+
+    // The part's binary place in the number of a set of parts.
+    pub fn place(self) -> usize
+        ensures value { λ r. ⌜ r ≡ pred (self .number) ⌝ }
+        ensures bound { λ r. ⌜ r < 40 ⌝ }
+    {
+        self.number as usize - 1
     }
 
     // The part number that comes after so many parts.

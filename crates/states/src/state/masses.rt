@@ -1,9 +1,8 @@
 ghost use mathlib.Core.Path.{_≡_};
-ghost use mathlib.Core.Bool.{cond};
 ghost use Prim.Native.Nat.{_≤_, _^_};
-ghost use lib.ListN.{length};
 ghost use Rattle.sheet.specs.Parts.{figures-of, count-of};
 ghost use Rattle.states.specs.Masses.{total, fall, goes-on, after, mass};
+ghost use Rattle.states.specs.Steps.{agreeing-masses};
 ghost use Rattle.states.specs.Sums.{sum-below};
 use super::State;
 use sheet::Sheet;
@@ -44,6 +43,8 @@ impl State {
     pub(super) fn left_after(self, sheet: &Sheet, count: usize) -> u64
         requires { ⌜ count ≤ count-of (now sheet) ⌝ }
         ensures value { λ r. ⌜ r ≡ after (figures-of (now (sheet .entry))) count (self .number) ⌝ }
+        ensures whole { λ r. ⌜ (count ≡ count-of (now (sheet .entry)) → r ≡ mass (figures-of (now (sheet .entry))) (self .number)) ⌝ }
+        ensures masses { λ r. ⌜ r ≡ agreeing-masses (figures-of (now (sheet .entry))) count (self .number) ⌝ }
         ensures bound { λ r. ⌜ r ≤ total ⌝ }
     {
         let parts = sheet.parts();

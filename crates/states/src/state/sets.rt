@@ -1,17 +1,18 @@
 ghost use mathlib.Core.Path.{_≡_};
 ghost use mathlib.Core.Bool.{true, false, not, _&&_, _||_};
-ghost use Prim.Native.Nat.{ℕ, pred, _<_, _^_, _%_};
+ghost use Prim.Native.Nat.{ℕ, _<_, _^_, _%_};
 ghost use lib.Dec.{eqb};
-ghost use Rattle.states.specs.Sets.{has, with-part, without-part, union, within, disjoint};
+ghost use Rattle.states.specs.Sets.{bit, has, with-part, without-part, union, within, disjoint};
 use super::State;
 use super::power;
 use sheet::PartNumber;
 
-// What the part adds to the number of a set.
-fn place(part: PartNumber) -> u64
-    ensures { λ r. ⌜ r ≡ 2 ^ pred (part .number) ⌝ }
+// Whether a binary place of a number holds a 1.
+fn bit_at(number: u64, place: usize) -> bool
+    requires { ⌜ place < 64 ⌝ }
+    ensures { λ r. ⌜ r ≡ bit place number ⌝ }
 {
-    power(part.number() as usize - 1)
+    (number >> place) % 2 == 1
 }
 
 impl State {
@@ -35,7 +36,7 @@ impl State {
     pub fn contains(self, part: PartNumber) -> bool
         ensures { λ r. ⌜ r ≡ has (part .number) (self .number) ⌝ }
     {
-        (self.number >> (part.number() - 1)) % 2 == 1
+        bit_at(self.number, part.place())
     }
 
     // The set with the part as well.
@@ -44,7 +45,7 @@ impl State {
         ensures parts { λ r. ⌜ ((j : ℕ) → 0 < j → has j (r .number) ≡ (eqb j (part .number) || has j (self .number))) ⌝ }
     {
         State {
-            number: self.number | place(part),
+            number: self.number | power(part.place()),
         }
     }
 
@@ -57,7 +58,7 @@ impl State {
             return self;
         }
         State {
-            number: self.number - place(part),
+            number: self.number - power(part.place()),
         }
     }
 

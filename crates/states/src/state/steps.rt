@@ -1,11 +1,13 @@
 ghost use mathlib.Core.Path.{_≡_};
 ghost use mathlib.Core.Bool.{cond};
-ghost use Prim.Native.Nat.{_+_, _≤_, _<_, _^_};
+ghost use Prim.Native.Nat.{suc, _+_, _≤_, _<_, _^_};
 ghost use lib.Dec.{ltb};
+ghost use lib.ListN.{length};
 ghost use Rattle.std.specs.Options.{Cases};
 ghost use Rattle.sheet.specs.Parts.{figures-of, count-of};
 ghost use Rattle.states.specs.Answers.{numbers};
 ghost use Rattle.states.specs.Masses.{total, mass};
+ghost use Rattle.states.specs.Sets.{with-part, without-part};
 ghost use Rattle.states.specs.Steps.{low, top, add-step, move-step, share, agreeing-masses, Parent};
 use super::State;
 use super::power;
@@ -22,9 +24,47 @@ impl State {
     // The greatest part of the sheet that is in the set; 0 where none is.
     fn greatest(self, sheet: &Sheet) -> usize
         ensures value { λ r. ⌜ r ≡ top (count-of (now (sheet .entry))) (self .number) ⌝ }
+        ensures empty { λ r. ⌜ (r ≡ 0 → low (count-of (now (sheet .entry))) (self .number) ≡ 0) ⌝ }
+        ensures figures { λ r. ⌜ r ≡ top (length (figures-of (now (sheet .entry)))) (self .number) ⌝ }
         ensures bound { λ r. ⌜ r ≤ count-of (now (sheet .entry)) ⌝ }
     {
         64 - self.low(sheet).leading_zeros() as usize
+    }
+
+    // The state that the sheet reads, with the part after its greatest as well.
+    fn with_next(self, sheet: &Sheet, greatest: usize) -> State
+        requires greatest { ⌜ greatest ≡ top (count-of (now sheet)) (self .number) ⌝ }
+        requires room { ⌜ greatest < count-of (now sheet) ⌝ }
+        ensures { λ r. ⌜ r .number ≡ with-part (suc greatest) (low (count-of (now (sheet .entry))) (self .number)) ⌝ }
+    {
+        State {
+            number: self.low(sheet) + power(greatest),
+        }
+    }
+
+    // The state that the sheet reads, with its greatest part replaced by the one after it.
+    fn with_moved(self, sheet: &Sheet, greatest: usize) -> State
+        requires greatest { ⌜ greatest ≡ top (count-of (now sheet)) (self .number) ⌝ }
+        requires some { ⌜ 0 < greatest ⌝ }
+        requires room { ⌜ greatest < count-of (now sheet) ⌝ }
+        ensures { λ r. ⌜ r .number ≡ with-part (suc greatest) (without-part greatest (low (count-of (now (sheet .entry))) (self .number))) ⌝ }
+    {
+        State {
+            number: self.low(sheet) + power(greatest - 1),
+        }
+    }
+
+    // The state from which the one that the sheet reads comes by a step.
+    fn step_back(self, sheet: &Sheet, greatest: usize) -> State
+        requires greatest { ⌜ greatest ≡ top (count-of (now sheet)) (self .number) ⌝ }
+        requires some { ⌜ 0 < greatest ⌝ }
+        requires bound { ⌜ greatest ≤ count-of (now sheet) ⌝ }
+        ensures { λ r. ⌜ Parent (count-of (now (sheet .entry))) (low (count-of (now (sheet .entry))) (self .number)) (r .number) ⌝ }
+    {
+        let place = power(greatest - 1);
+        State {
+            number: lower(self.low(sheet) - place, place / 2),
+        }
     }
 
     // The state's mass on the sheet: its probability, out of the total of 10^18, rounded part by part.
@@ -38,7 +78,7 @@ impl State {
     // The state's share: the masses of it and of all states of the sheet that agree with it up to its greatest part.
     pub fn share(self, sheet: &Sheet) -> u64
         ensures value { λ r. ⌜ r ≡ share (figures-of (now (sheet .entry))) (self .number) ⌝ }
-        ensures masses { λ r. ⌜ r ≡ agreeing-masses (figures-of (now (sheet .entry))) (self .number) ⌝ }
+        ensures masses { λ r. ⌜ r ≡ agreeing-masses (figures-of (now (sheet .entry))) (top (count-of (now (sheet .entry))) (self .number)) (self .number) ⌝ }
         ensures bound { λ r. ⌜ r ≤ total ⌝ }
     {
         self.left_after(sheet, self.greatest(sheet))
@@ -52,9 +92,7 @@ impl State {
         if greatest >= sheet.count() {
             return None;
         }
-        Some(State {
-            number: self.low(sheet) + power(greatest),
-        })
+        Some(self.with_next(sheet, greatest))
     }
 
     // The state with its greatest part replaced by the one after it; none where there are no such parts.
@@ -65,9 +103,7 @@ impl State {
         if greatest == 0 || greatest >= sheet.count() {
             return None;
         }
-        Some(State {
-            number: self.low(sheet) + power(greatest - 1),
-        })
+        Some(self.with_moved(sheet, greatest))
     }
 
     // The one state of the sheet from which this one comes by a step; none for the empty state.
@@ -78,10 +114,7 @@ impl State {
         if greatest == 0 {
             return None;
         }
-        let place = power(greatest - 1);
-        Some(State {
-            number: lower(self.low(sheet) - place, place / 2),
-        })
+        Some(self.step_back(sheet, greatest))
     }
 }
 

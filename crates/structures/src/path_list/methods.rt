@@ -1,7 +1,7 @@
 ghost use mathlib.Core.Path.{_≡_};
-ghost use mathlib.Core.List.{map};
-ghost use Prim.Native.Nat.{_%_, _^_};
-ghost use Rattle.std.specs.Of.Vec.{vec-items};
+ghost use mathlib.Core.List.{[], map};
+ghost use lib.ListN.{length};
+ghost use Rattle.std.specs.Of.Vec.{vec-len, vec-items};
 ghost use Rattle.std.specs.Vec.{made};
 ghost use Rattle.structures.specs.Meanings.{path-list-works};
 ghost use Rattle.structures.specs.Paths.{paths-of, first-too-high, place-refused, Listed};
@@ -13,9 +13,10 @@ use states::State;
 use std::alloc::AllocError;
 use std::alloc::Global;
 
-// The sets of these numbers, of each of which the lowest 40 places count.
+// The sets of these numbers.
 fn sets(heap: Global, numbers: &[u64]) -> Result<Vec<State>, AllocError>
-    ensures { λ r. ⌜ made r (λ paths. map (λ path. path .number) (vec-items paths) ≡ map (λ n. n % 2 ^ 40) (now (numbers .entry))) ⌝ }
+    requires { ⌜ first-too-high 0 (now numbers) ≡ [] ⌝ }
+    ensures { λ r. ⌜ made r (λ paths. (map (λ path. path .number) (vec-items paths) ≡ now (numbers .entry)) × (vec-len paths ≡ length (now (numbers .entry)))) ⌝ }
 {
     let mut paths = Vec::new(heap);
     for number in numbers {

@@ -33,9 +33,10 @@ loop-number-again g c =
     let within : i < 2 ^ length (figures-of s) = omega arith in
     let few : length (figures-of s) ≤ 40 = omega (arith, count-is s) in
     let small : i < 2 ^ 40 = lt-of-lt-of-le within (pow-mono few) in
-    let number = c .new-state .ensures ∙ mod-eq-of-lt small in
-    (one-working works (figures-of s) i (c .new-state .result .number) (c .mass .result) _ _ (c .works-in .result) within number (c .mass .ensures .value) (c .works-in .ensures) (c .loop-number .inv .0) (c .with-sums .ensures .working),
-    one-failing works (figures-of s) i (c .new-state .result .number) (c .mass .result) _ _ (c .works-in .result) within number (c .mass .ensures .value) (c .works-in .ensures) (c .loop-number .inv .1) (c .with-sums .ensures .failing))
+    let number = c .new-state .ensures ∙ mod-eq-of-lt small in (
+      one-working works (figures-of s) i (c .new-state .result .number) (c .mass .result) _ _ (c .works-in .result) within number (c .mass .ensures .value) (c .works-in .ensures) (c .loop-number .inv .0) (c .with-sums .ensures .working),
+      one-failing works (figures-of s) i (c .new-state .result .number) (c .mass .result) _ _ (c .works-in .result) within number (c .mass .ensures .value) (c .works-in .ensures) (c .loop-number .inv .1) (c .with-sums .ensures .failing),
+    )
 
 pub returns : need.returns
 returns g c =
@@ -43,8 +44,9 @@ returns g c =
     let works = g .S·Structure .works (c .args .pile .now) in
     let i = c .loop-number .number in
     let end = all-numbers s (c .count-count .result) (c .count-count .ensures .value) (c .if-count-gt20 .left) in
-    let all : i ≡ 2 ^ length (figures-of s) = omega arith in
-    (omega (arith, count-is s),
-    c .loop-number .inv .0 ∙ ap (λ m. sum-below m (working-mass works (figures-of s))) all,
-    c .loop-number .inv .1 ∙ ap (λ m. sum-below m (failing-mass works (figures-of s))) all,
-    in-all works s i _ _ (c .loop-number .inv .0) (c .loop-number .inv .1) all)
+    let all : i ≡ 2 ^ length (figures-of s) = omega arith in (
+      omega (arith, count-is s),
+      c .loop-number .inv .0 ∙ ap (λ m. sum-below m (working-mass works (figures-of s))) all,
+      c .loop-number .inv .1 ∙ ap (λ m. sum-below m (failing-mass works (figures-of s))) all,
+      in-all works s i _ _ (c .loop-number .inv .0) (c .loop-number .inv .1) all,
+    )

@@ -18,7 +18,7 @@ pub returns-in-Some : need.returns-in-Some
 unfolding last
 returns-in-Some c =
     let item = c .in-Some .ensures tt .item in
-    c .number .ensures .value ∙ ap (λ g. g .number) (c .grade .ensures)
+    c .number .ensures .value
     ∙ last-map grade-of _ (c .in-Some .part .now) 0 (item .3 .0) (item .1)
     ∙ ap last (c .deref .ensures .value)
 

@@ -7,7 +7,9 @@ use lib.ListN.{length, getD}
 use Rattle.std.proofs.shelf.Lists.{getD-map}
 use Rattle.sheet.specs.Parts.{figures-of, figure-of, parts-of}
 use Rattle.states.specs.Masses.{after}
-use Rattle.states.proofs.Masses.{after-more}
+use Rattle.states.proofs.Masses.{after-more, figures-fine}
+use Rattle.states.proofs.Sheets.{count-is}
+use Rattle.states.proofs.Steps.{left-is}
 use Rattle.states.proofs.state.State.left_after.Needs as need
 
 pub loop-l-holds : need.loop-l-holds
@@ -23,3 +25,16 @@ loop-l-again c =
     let within : l < length parts = omega arith in
     let figure = c .failure-ppm .ensures .value ∙ ap figure-of read ∙ sym (getD-map figure-of parts l part 0 within) in
     (after-more _ l _ _ _ _ figure (c .loop-l .inv .0) (c .remaining-left .ensures .value), omega arith)
+
+pub returns : need.returns
+returns c =
+    let s = c .args .sheet .now in
+    let count = c .args .count in
+    let all : c .loop-l .l ≡ count = omega arith in
+    let value : c .loop-l .left ≡ after (figures-of s) count (c .args .self .number) = c .loop-l .inv .0 ∙ ap (λ l. after (figures-of s) l (c .args .self .number)) all in
+    record {
+      value = value;
+      whole = λ e. value ∙ ap (λ l. after (figures-of s) l (c .args .self .number)) (e ∙ sym (count-is s));
+      masses = value ∙ left-is (figures-of s) (figures-fine s) count (c .args .self .number) (omega (arith, count-is s));
+      bound = c .loop-l .inv .1;
+    }

@@ -16,12 +16,12 @@ returns-then-not-contains c =
 
 pub sub-result : need.sub-result
 sub-result c =
-    omega (arith, c .place .ensures, part-le (pred (c .args .part .number)) (c .args .self .number) (sym (c .if-not-contains .ensures tt)))
+    omega (arith, (c .power .ensures ∙ ap (λ k. 2 ^ k) (c .place .ensures .value)), part-le (pred (c .args .part .number)) (c .args .self .number) (sym (c .if-not-contains .ensures tt)))
 
 pub returns : need.returns
 unfolding without-part
 returns c =
     let i = c .args .part .number in
     let x = c .args .self .number in
-    let made = ap (λ p. x - p) (c .place .ensures) ∙ sym (cond-true (has i x) (x - 2 ^ pred i) x (sym (c .if-not-contains .ensures tt))) in
+    let made = ap (λ p. x - p) ((c .power .ensures ∙ ap (λ k. 2 ^ k) (c .place .ensures .value))) ∙ sym (cond-true (has i x) (x - 2 ^ pred i) x (sym (c .if-not-contains .ensures tt))) in
     record { value = made; parts = has-without i x _ (c .args .part .«from_one») made }
