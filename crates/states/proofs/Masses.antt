@@ -14,7 +14,8 @@ use Rattle.states.specs.Steps.{low, agrees}
 use Rattle.states.proofs.Bits.{bit-low, bit-beyond}
 use Rattle.states.proofs.Sets.{bit-added}
 use lib.ListN.{length, getD}
-use Rattle.sheet.specs.Parts.{figures-of}
+use Rattle.std.proofs.shelf.Lists.{length-map}
+use Rattle.sheet.specs.Parts.{figures-of, figure-of, parts-of, count-of}
 use Rattle.sheet.specs.declared.sealed.Sheet.{Sheet}
 use Rattle.sheet.proofs.Figures.{figures-half}
 use Rattle.states.specs.Sets.{bit, has}
@@ -106,6 +107,14 @@ conserved qs fig =
 
 pub figures-fine : (s : Sheet) → Figures (figures-of s)
 figures-fine s l = omega (arith, figures-half s l)
+
+pub all-masses : (s : Sheet) → sum-below (2 ^ count-of s) (mass (figures-of s)) ≡ total
+all-masses s =
+    ap (λ n. sum-below (2 ^ n) (mass (figures-of s))) (sym (length-map (parts-of s) figure-of)) ∙ conserved (figures-of s) (figures-fine s)
+
+pub after-none : (qs : List ℕ) (x : ℕ) → after qs 0 x ≡ total
+unfolding after
+after-none qs x = refl
 
 -- the quotient and the remainder by a million, multiplied apart
 pub fall-apart : (q s : ℕ) → s / 1000000 * q + s % 1000000 * q / 1000000 ≡ fall q s

@@ -19,21 +19,17 @@ abbrev numbers : List State → List ℕ
 numbers items = map (λ path. path .number) items
 
 -- the paths from place i on: the one there, and the others
-module _ (items xs : List State) (x i : ℕ) (same : xs ≡ items) where
-  pub one-path : (p : State) → i < length xs → p ≡ getD xs i p
+module _ (items : List State) (x i : ℕ) where
+  pub one-path : (p : State) → i < length items → p ≡ getD items i p
       → path-list-works (drop i (numbers items)) x ≡ (disjoint (p .number) x || path-list-works (drop (i + 1) (numbers items)) x)
   one-path p h read =
-      let within : i < length items = rw same at h in
-      let inside : i < length (numbers items) = simp length-map within in
-      let number = getD-map (λ path. path .number) items i p 0 within ∙ ap (λ path. path .number) (sym (read ∙ ap (λ ys. getD ys i p) same)) in
+      let inside : i < length (numbers items) = simp length-map h in
+      let number = getD-map (λ path. path .number) items i p 0 h ∙ ap (λ path. path .number) (sym read) in
       at-drop-more (λ ps. path-list-works ps x) (numbers items) i 0 inside
       ∙ ap (λ n. disjoint n x || path-list-works (drop (i + 1) (numbers items)) x) number
 
-  pub no-path : length xs ≤ i → path-list-works (drop i (numbers items)) x ≡ false
-  no-path h =
-      let past : length items ≤ i = rw same at h in
-      let all : length (numbers items) ≤ i = simp length-map past in
-      at-drop-all (λ ps. path-list-works ps x) (numbers items) i all
+  pub no-path : length items ≤ i → path-list-works (drop i (numbers items)) x ≡ false
+  no-path h = let all : length (numbers items) ≤ i = simp length-map h in at-drop-all (λ ps. path-list-works ps x) (numbers items) i all
 
 -- one number more of which a set is made
 pub one-set : (ns : List ℕ) (i : ℕ) (sets before : List State) (s : State) → sets ≡ before ++ s ∷ [] → numbers before ≡ map (λ n. n % 2 ^ 40) (take i ns)

@@ -28,7 +28,7 @@ impl PartNumber {
         ensures value { λ r. ⌜ r ≡ pred (self .number) ⌝ }
         ensures bound { λ r. ⌜ r < 40 ⌝ }
     {
-        self.number as usize - 1
+        (self.number - 1) as usize
     }
 
     // The part number that comes after so many parts.

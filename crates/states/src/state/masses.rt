@@ -30,12 +30,12 @@ fn remaining(ppm: u32, left: u64, failed: bool) -> u64
     if failed { fallen } else { left - fallen }
 }
 
-// The masses of all states of the sheet together: the same total on every sheet.
-pub fn total_mass(_sheet: &Sheet) -> u64
+// The masses of all states of the sheet together, which is what there is before any part: the same total on every sheet.
+pub fn total_mass(sheet: &Sheet) -> u64
     ensures value { λ r. ⌜ r ≡ total ⌝ }
-    ensures all_states { λ r. ⌜ r ≡ sum-below (2 ^ count-of (now («_sheet» .entry))) (mass (figures-of (now («_sheet» .entry)))) ⌝ }
+    ensures all_states { λ r. ⌜ r ≡ sum-below (2 ^ count-of (now (sheet .entry))) (mass (figures-of (now (sheet .entry)))) ⌝ }
 {
-    TOTAL
+    State::new(0).left_after(sheet, 0)
 }
 
 impl State {
@@ -43,6 +43,8 @@ impl State {
     pub(super) fn left_after(self, sheet: &Sheet, count: usize) -> u64
         requires { ⌜ count ≤ count-of (now sheet) ⌝ }
         ensures value { λ r. ⌜ r ≡ after (figures-of (now (sheet .entry))) count (self .number) ⌝ }
+        ensures before { λ r. ⌜ (count ≡ 0 → r ≡ total) ⌝ }
+        ensures all_states { λ r. ⌜ (count ≡ 0 → r ≡ sum-below (2 ^ count-of (now (sheet .entry))) (mass (figures-of (now (sheet .entry))))) ⌝ }
         ensures whole { λ r. ⌜ (count ≡ count-of (now (sheet .entry)) → r ≡ mass (figures-of (now (sheet .entry))) (self .number)) ⌝ }
         ensures masses { λ r. ⌜ r ≡ agreeing-masses (figures-of (now (sheet .entry))) count (self .number) ⌝ }
         ensures bound { λ r. ⌜ r ≤ total ⌝ }

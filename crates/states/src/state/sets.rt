@@ -7,12 +7,60 @@ use super::State;
 use super::power;
 use sheet::PartNumber;
 
+// Sets by their numbers, which the type below keeps within 40 places.
+
 // Whether a binary place of a number holds a 1.
 fn bit_at(number: u64, place: usize) -> bool
     requires { ⌜ place < 64 ⌝ }
     ensures { λ r. ⌜ r ≡ bit place number ⌝ }
 {
     (number >> place) % 2 == 1
+}
+
+fn number_with(number: u64, part: PartNumber) -> u64
+    requires { ⌜ number < 2 ^ 40 ⌝ }
+    ensures value { λ r. ⌜ r ≡ with-part (part .number) number ⌝ }
+    ensures parts { λ r. ⌜ ((j : ℕ) → 0 < j → has j r ≡ (eqb j (part .number) || has j number)) ⌝ }
+    ensures bound { λ r. ⌜ r < 2 ^ 40 ⌝ }
+{
+    number | power(part.place())
+}
+
+fn number_without(number: u64, part: PartNumber) -> u64
+    requires { ⌜ number < 2 ^ 40 ⌝ }
+    ensures value { λ r. ⌜ r ≡ without-part (part .number) number ⌝ }
+    ensures parts { λ r. ⌜ ((j : ℕ) → 0 < j → has j r ≡ (not (eqb j (part .number)) && has j number)) ⌝ }
+    ensures bound { λ r. ⌜ r < 2 ^ 40 ⌝ }
+{
+    if !bit_at(number, part.place()) {
+        return number;
+    }
+    number - power(part.place())
+}
+
+fn number_union(one: u64, other: u64) -> u64
+    requires { ⌜ one < 2 ^ 40 ⌝ ∗ ⌜ other < 2 ^ 40 ⌝ }
+    ensures value { λ r. ⌜ r ≡ union one other ⌝ }
+    ensures parts { λ r. ⌜ ((j : ℕ) → has j r ≡ (has j one || has j other)) ⌝ }
+    ensures bound { λ r. ⌜ r < 2 ^ 40 ⌝ }
+{
+    one | other
+}
+
+fn number_within(one: u64, other: u64) -> bool
+    ensures value { λ r. ⌜ r ≡ within one other ⌝ }
+    ensures parts { λ r. ⌜ (r ≡ true → (j : ℕ) → has j one ≡ true → has j other ≡ true) ⌝ }
+    ensures all_parts { λ r. ⌜ (((j : ℕ) → has j one ≡ true → has j other ≡ true) → r ≡ true) ⌝ }
+{
+    one & other == one
+}
+
+fn number_disjoint(one: u64, other: u64) -> bool
+    ensures value { λ r. ⌜ r ≡ disjoint one other ⌝ }
+    ensures parts { λ r. ⌜ (r ≡ true → (j : ℕ) → has j one ≡ true → has j other ≡ false) ⌝ }
+    ensures all_parts { λ r. ⌜ (((j : ℕ) → has j one ≡ true → has j other ≡ false) → r ≡ true) ⌝ }
+{
+    one & other == 0
 }
 
 impl State {
@@ -45,7 +93,7 @@ impl State {
         ensures parts { λ r. ⌜ ((j : ℕ) → 0 < j → has j (r .number) ≡ (eqb j (part .number) || has j (self .number))) ⌝ }
     {
         State {
-            number: self.number | power(part.place()),
+            number: number_with(self.number, part),
         }
     }
 
@@ -54,11 +102,8 @@ impl State {
         ensures value { λ r. ⌜ r .number ≡ without-part (part .number) (self .number) ⌝ }
         ensures parts { λ r. ⌜ ((j : ℕ) → 0 < j → has j (r .number) ≡ (not (eqb j (part .number)) && has j (self .number))) ⌝ }
     {
-        if !self.contains(part) {
-            return self;
-        }
         State {
-            number: self.number - power(part.place()),
+            number: number_without(self.number, part),
         }
     }
 
@@ -68,7 +113,7 @@ impl State {
         ensures parts { λ r. ⌜ ((j : ℕ) → has j (r .number) ≡ (has j (self .number) || has j (other .number))) ⌝ }
     {
         State {
-            number: self.number | other.number,
+            number: number_union(self.number, other.number),
         }
     }
 
@@ -78,7 +123,7 @@ impl State {
         ensures parts { λ r. ⌜ (r ≡ true → (j : ℕ) → has j (self .number) ≡ true → has j (other .number) ≡ true) ⌝ }
         ensures all_parts { λ r. ⌜ (((j : ℕ) → has j (self .number) ≡ true → has j (other .number) ≡ true) → r ≡ true) ⌝ }
     {
-        self.number & other.number == self.number
+        number_within(self.number, other.number)
     }
 
     // Whether no part of this set is in the other.
@@ -87,6 +132,6 @@ impl State {
         ensures parts { λ r. ⌜ (r ≡ true → (j : ℕ) → has j (self .number) ≡ true → has j (other .number) ≡ false) ⌝ }
         ensures all_parts { λ r. ⌜ (((j : ℕ) → has j (self .number) ≡ true → has j (other .number) ≡ false) → r ≡ true) ⌝ }
     {
-        self.number & other.number == 0
+        number_disjoint(self.number, other.number)
     }
 }

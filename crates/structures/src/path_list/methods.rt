@@ -37,6 +37,18 @@ fn too_high(numbers: &[u64]) -> Option<usize>
     None
 }
 
+// Whether all parts of some path are sound.
+fn some_sound(paths: &[State], state: State) -> bool
+    ensures { λ r. ⌜ r ≡ path-list-works (map (λ path. path .number) (now (paths .entry))) (state .number) ⌝ }
+{
+    for path in paths {
+        if path.is_disjoint(state) {
+            return true;
+        }
+    }
+    false
+}
+
 impl PathList {
     // The list of these paths, each the number of a set of parts: at most 256, none with a part above 40.
     pub fn new(heap: Global, numbers: &[u64]) -> Result<PathList, PathListError>
@@ -57,11 +69,6 @@ pub impl Structure for PathList as PathListStructure {
     ghost works = { λ list x. path-list-works (paths-of list) x };
 
     fn works_in(&self, state: State) -> bool {
-        for path in self.paths.iter() {
-            if path.is_disjoint(state) {
-                return true;
-            }
-        }
-        false
+        some_sound(self.paths.as_slice(), state)
     }
 }

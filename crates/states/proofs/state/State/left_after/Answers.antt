@@ -6,8 +6,8 @@ use lib.Dec.{lit≤}
 use lib.ListN.{length, getD}
 use Rattle.std.proofs.shelf.Lists.{getD-map}
 use Rattle.sheet.specs.Parts.{figures-of, figure-of, parts-of}
-use Rattle.states.specs.Masses.{after}
-use Rattle.states.proofs.Masses.{after-more, figures-fine}
+use Rattle.states.specs.Masses.{total, after}
+use Rattle.states.proofs.Masses.{after-more, after-none, all-masses, figures-fine}
 use Rattle.states.proofs.Sheets.{count-is}
 use Rattle.states.proofs.Steps.{left-is}
 use Rattle.states.proofs.state.State.left_after.Needs as need
@@ -32,8 +32,11 @@ returns c =
     let count = c .args .count in
     let all : c .loop-l .l ≡ count = omega arith in
     let value : c .loop-l .left ≡ after (figures-of s) count (c .args .self .number) = c .loop-l .inv .0 ∙ ap (λ l. after (figures-of s) l (c .args .self .number)) all in
+    let none : count ≡ 0 → c .loop-l .left ≡ total = λ e. value ∙ ap (λ l. after (figures-of s) l (c .args .self .number)) e ∙ after-none (figures-of s) (c .args .self .number) in
     record {
       value = value;
+      before = none;
+      all-states = λ e. none e ∙ sym (all-masses s);
       whole = λ e. value ∙ ap (λ l. after (figures-of s) l (c .args .self .number)) (e ∙ sym (count-is s));
       masses = value ∙ left-is (figures-of s) (figures-fine s) count (c .args .self .number) (omega (arith, count-is s));
       bound = c .loop-l .inv .1;

@@ -1,5 +1,5 @@
-use mathlib.Core.Path.{_≡_, _∙_, ap, sym}
-use Prim.Native.Nat.{ℕ, _%_, _^_, _<_, _≤_}
+use mathlib.Core.Path.{_≡_, _∙_, ap}
+use Prim.Native.Nat.{_^_, _<_, _≤_}
 use native.Mathlib.Nat.{mod-eq-of-lt, lt-of-lt-of-le}
 use native.Mathlib.Omega.{arith}
 use lib.ListN.{length}
@@ -10,10 +10,7 @@ use Rattle.states.proofs.Sums.{sum-none}
 use Rattle.states.specs.Sums.{sum-below}
 use Rattle.structures.specs.Reliability.{working-mass, failing-mass}
 use Rattle.summation.proofs.Totals.{all-numbers, one-working, one-failing, so-far, in-all}
-use Rattle.summation.proofs.summing.sum_states.Needs as need
-
-pub returns-then-count-gt20 : need.returns-then-count-gt20
-returns-then-count-gt20 g c = omega (arith, count-is (c .args .sheet .now))
+use Rattle.summation.proofs.summing.all_states.Needs as need
 
 pub loop-number-holds : need.loop-number-holds
 loop-number-holds g c = (sum-none _, sum-none _)
@@ -21,7 +18,7 @@ loop-number-holds g c = (sum-none _, sum-none _)
 pub with-sums-requires : need.with-sums-requires
 with-sums-requires g c κs =
     let s = c .args .sheet .now in
-    let end = all-numbers s (c .count-count .result) (c .count-count .ensures .value) (c .if-count-gt20 .left) in
+    let end = all-numbers s (c .count .result) (c .count .ensures .value) (omega arith) in
     omega (arith, so-far (g .S·Structure .works (c .args .pile .now)) s (c .loop-number .number) _ _ (c .loop-number .inv .0) (c .loop-number .inv .1) (omega arith))
 
 pub loop-number-again : need.loop-number-again
@@ -29,13 +26,14 @@ loop-number-again g c =
     let s = c .args .sheet .now in
     let works = g .S·Structure .works (c .args .pile .now) in
     let i = c .loop-number .number in
-    let end = all-numbers s (c .count-count .result) (c .count-count .ensures .value) (c .if-count-gt20 .left) in
+    let x = c .new-state .result .number in
+    let end = all-numbers s (c .count .result) (c .count .ensures .value) (omega arith) in
     let within : i < 2 ^ length (figures-of s) = omega arith in
     let few : length (figures-of s) ≤ 40 = omega (arith, count-is s) in
     let small : i < 2 ^ 40 = lt-of-lt-of-le within (pow-mono few) in
     let number = c .new-state .ensures ∙ mod-eq-of-lt small in (
-      one-working works (figures-of s) i (c .new-state .result .number) (c .mass .result) _ _ (c .works-in .result) within number (c .mass .ensures .value) (c .works-in .ensures) (c .loop-number .inv .0) (c .with-sums .ensures .working),
-      one-failing works (figures-of s) i (c .new-state .result .number) (c .mass .result) _ _ (c .works-in .result) within number (c .mass .ensures .value) (c .works-in .ensures) (c .loop-number .inv .1) (c .with-sums .ensures .failing),
+      one-working works (figures-of s) i x (c .mass .result) _ _ (c .works-in .result) within number (c .mass .ensures .value) (c .works-in .ensures) (c .loop-number .inv .0) (c .with-sums .ensures .working),
+      one-failing works (figures-of s) i x (c .mass .result) _ _ (c .works-in .result) within number (c .mass .ensures .value) (c .works-in .ensures) (c .loop-number .inv .1) (c .with-sums .ensures .failing),
     )
 
 pub returns : need.returns
@@ -43,10 +41,10 @@ returns g c =
     let s = c .args .sheet .now in
     let works = g .S·Structure .works (c .args .pile .now) in
     let i = c .loop-number .number in
-    let end = all-numbers s (c .count-count .result) (c .count-count .ensures .value) (c .if-count-gt20 .left) in
-    let all : i ≡ 2 ^ length (figures-of s) = omega arith in (
-      omega (arith, count-is s),
-      c .loop-number .inv .0 ∙ ap (λ m. sum-below m (working-mass works (figures-of s))) all,
-      c .loop-number .inv .1 ∙ ap (λ m. sum-below m (failing-mass works (figures-of s))) all,
-      in-all works s i _ _ (c .loop-number .inv .0) (c .loop-number .inv .1) all,
-    )
+    let end = all-numbers s (c .count .result) (c .count .ensures .value) (omega arith) in
+    let all : i ≡ 2 ^ length (figures-of s) = omega arith in
+    record {
+      working = c .loop-number .inv .0 ∙ ap (λ m. sum-below m (working-mass works (figures-of s))) all;
+      failing = c .loop-number .inv .1 ∙ ap (λ m. sum-below m (failing-mass works (figures-of s))) all;
+      together = in-all works s i _ _ (c .loop-number .inv .0) (c .loop-number .inv .1) all;
+    }

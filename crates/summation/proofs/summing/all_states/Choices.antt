@@ -2,7 +2,7 @@ use mathlib.Core.Path.{_≡_}
 use Rattle.sheet.specs.Parts.{figures-of}
 use Rattle.states.specs.Sums.{sum-below}
 use Rattle.structures.specs.Reliability.{working-mass, failing-mass}
-use Rattle.summation.proofs.summing.sum_states.Given as given
+use Rattle.summation.proofs.summing.all_states.Given as given
 
 -- the states so far are summed
 abbrev pub Inv-loop-number : given.InvT-loop-number
