@@ -30,3 +30,7 @@ count-of s = length (parts-of s)
 -- the failure figures of a sheet's parts, part 1 first
 abbrev pub figures-of : Sheet → List ℕ
 figures-of s = map figure-of (parts-of s)
+
+-- the grades of a sheet's parts, part 1 first
+abbrev pub grades-of : Sheet → List ℕ
+grades-of s = map grade-of (parts-of s)

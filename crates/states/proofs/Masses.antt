@@ -112,6 +112,11 @@ pub all-masses : (s : Sheet) → sum-below (2 ^ count-of s) (mass (figures-of s)
 all-masses s =
     ap (λ n. sum-below (2 ^ n) (mass (figures-of s))) (sym (length-map (parts-of s) figure-of)) ∙ conserved (figures-of s) (figures-fine s)
 
+-- the mass reads no place beyond the sheet
+pub mass-read : (s : Sheet) (x : ℕ) → mass (figures-of s) (low (count-of s) x) ≡ mass (figures-of s) x
+mass-read s x =
+    ap (λ n. mass (figures-of s) (low n x)) (sym (length-map (parts-of s) figure-of)) ∙ after-low (figures-of s) (length (figures-of s)) x
+
 pub after-none : (qs : List ℕ) (x : ℕ) → after qs 0 x ≡ total
 unfolding after
 after-none qs x = refl

@@ -1,21 +1,22 @@
 -- The steps between states. Assumes nothing.
 use mathlib.Core.Path.{_≡_, refl, sym, _∙_, ap, subst}
 use mathlib.Core.List.{List, [], _∷_}
-use mathlib.Core.Bool.{Bool, true, false, cond, _&&_}
+use mathlib.Core.Bool.{Bool, true, false, cond, _&&_, _||_, or-false}
 use mathlib.Core.Logic.{_⊎_, inl, inr, ⊎-elim}
 use Prim.Native.Nat.{ℕ, zero, suc, pred, _+_, _-_, _*_, _/_, _%_, _^_, _<_, _≤_}
 use native.Mathlib.Nat.{mod-lt, mod-eq-of-lt, lt-of-lt-of-le, two-pow-succ}
 use native.Mathlib.Omega.{arith}
-use borrow.Author.Tests.{lt-ltb, le-ltb, ltb-true, ltb-false}
+use borrow.Author.Tests.{lt-ltb, le-ltb, ltb-true, ltb-false, eq-eqb, ne-eqb}
 use lib.Count.{leadingZeros, leading-unique}
-use lib.Dec.{ltb}
+use lib.Dec.{ltb, eqb}
 use lib.ListN.{length}
 use lib.Pow.{pow-pos, pow-mono}
-use Rattle.std.proofs.shelf.Tests.{cases-lt, cond-true, cond-false, cond-both, and-parts, and-from}
+use Rattle.std.proofs.shelf.Tests.{cases-lt, cond-true, cond-false, cond-both, and-parts, and-from, or-from, or-right}
 use Rattle.states.specs.Masses.{after}
 use Rattle.states.specs.Sets.{bit, with-part, without-part}
 use Rattle.states.specs.Steps.{low, top, add-step, move-step, agreeing-masses, Leads, Parent}
 use Rattle.states.proofs.Masses.{Figures, spread}
+use Rattle.states.proofs.Sets.{bit-added}
 use Rattle.states.proofs.Bits.{bit-beyond, bit-highest, low-more}
 
 pub top-le : (n x : ℕ) → top n x ≤ n
@@ -264,3 +265,58 @@ module _ (n x z g p : ℕ) (few : n ≤ 40) (z-is : z ≡ low n x) (g-is : g ≡
 
 pub low-empty : (n x : ℕ) → top n x ≡ 0 → low n x ≡ 0
 low-empty n x e = omega (arith, rw e at (low-below n x))
+
+-- a step from the state z of a sheet of n parts to y, place by place
+pub record Added (n z y t : ℕ) : Type 0 where
+  pub room : t < n
+  pub lacked : bit t z ≡ false
+  pub gained : bit t y ≡ true
+  pub others : (j : ℕ) → (j ≡ t → ⊥) → bit j y ≡ bit j z
+
+pub record Moved (n z y m : ℕ) : Type 0 where
+  pub room : suc m < n
+  pub had : bit m z ≡ true
+  pub lost : bit m y ≡ false
+  pub lacked : bit (suc m) z ≡ false
+  pub gained : bit (suc m) y ≡ true
+  pub others : (j : ℕ) → (j ≡ m → ⊥) → (j ≡ suc m → ⊥) → bit j y ≡ bit j z
+
+pub added-bits : (n z y : ℕ) → z < 2 ^ n → add-step n z ≡ y ∷ [] → Added n z y (top n z)
+added-bits n z y on-sheet s =
+    let t = top n z in
+    let found = by-add n z y on-sheet s in
+    let lacks : bit t z ≡ false = bit-beyond t t z (omega arith) (rw (mod-eq-of-lt on-sheet) at (low-below n z)) in
+    let y-is : y ≡ 2 ^ t + z = omega (arith, found .1) in
+    let bits : (j : ℕ) → bit j y ≡ (bit j z || eqb j t) = λ j. ap (bit j) y-is ∙ bit-added t j z lacks in
+    record {
+      room = found .0;
+      lacked = lacks;
+      gained = bits t ∙ or-right (bit t z) (eqb t t) (eq-eqb t t refl);
+      others = λ j ne. bits j ∙ ap (λ b. bit j z || b) (ne-eqb j t ne) ∙ or-false (bit j z);
+    }
+
+pub moved-bits : (n z y : ℕ) → z < 2 ^ n → move-step n z ≡ y ∷ [] → (m : ℕ) × Moved n z y m
+moved-bits n z y on-sheet s =
+    let found = by-move n z y on-sheet s in
+    let m = found .0 in
+    let down = rw (mod-eq-of-lt on-sheet, found .1) at (low-below n z) in
+    let up = rw (mod-eq-of-lt on-sheet, found .1) at (low-reaches n z) in
+    let p = two-pow-succ m in
+    let holds : bit m z ≡ true = bit-highest m z (omega arith) down in
+    let w : ℕ = z - 2 ^ m in
+    let small : w < 2 ^ m = omega arith in
+    let lacks : (k : ℕ) → m ≤ k → bit k w ≡ false = λ k le. bit-beyond k m w le small in
+    let z-is : z ≡ 2 ^ m + w = omega arith in
+    let y-is : y ≡ 2 ^ suc m + w = omega (arith, found .3) in
+    let z-bits : (j : ℕ) → bit j z ≡ (bit j w || eqb j m) = λ j. ap (bit j) z-is ∙ bit-added m j w (lacks m (omega arith)) in
+    let y-bits : (j : ℕ) → bit j y ≡ (bit j w || eqb j (suc m)) = λ j. ap (bit j) y-is ∙ bit-added (suc m) j w (lacks (suc m) (omega arith)) in (
+      m,
+      record {
+        room = found .2;
+        had = holds;
+        lost = y-bits m ∙ or-from _ _ (lacks m (omega arith)) (ne-eqb m (suc m) (λ e. omega arith));
+        lacked = z-bits (suc m) ∙ or-from _ _ (lacks (suc m) (omega arith)) (ne-eqb (suc m) m (λ e. omega arith));
+        gained = y-bits (suc m) ∙ or-right (bit (suc m) w) _ (eq-eqb (suc m) (suc m) refl);
+        others = λ j ne ne'. y-bits j ∙ ap (λ b. bit j w || b) (ne-eqb j (suc m) ne') ∙ sym (z-bits j ∙ ap (λ b. bit j w || b) (ne-eqb j m ne));
+      },
+    )

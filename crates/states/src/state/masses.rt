@@ -2,7 +2,7 @@ ghost use mathlib.Core.Path.{_≡_};
 ghost use Prim.Native.Nat.{_≤_, _^_};
 ghost use Rattle.sheet.specs.Parts.{figures-of, count-of};
 ghost use Rattle.states.specs.Masses.{total, fall, goes-on, after, mass};
-ghost use Rattle.states.specs.Steps.{agreeing-masses};
+ghost use Rattle.states.specs.Steps.{low, agreeing-masses};
 ghost use Rattle.states.specs.Sums.{sum-below};
 use super::State;
 use sheet::Sheet;
@@ -46,6 +46,7 @@ impl State {
         ensures before { λ r. ⌜ (count ≡ 0 → r ≡ total) ⌝ }
         ensures all_states { λ r. ⌜ (count ≡ 0 → r ≡ sum-below (2 ^ count-of (now (sheet .entry))) (mass (figures-of (now (sheet .entry))))) ⌝ }
         ensures whole { λ r. ⌜ (count ≡ count-of (now (sheet .entry)) → r ≡ mass (figures-of (now (sheet .entry))) (self .number)) ⌝ }
+        ensures as_read { λ r. ⌜ (count ≡ count-of (now (sheet .entry)) → r ≡ mass (figures-of (now (sheet .entry))) (low (count-of (now (sheet .entry))) (self .number))) ⌝ }
         ensures masses { λ r. ⌜ r ≡ agreeing-masses (figures-of (now (sheet .entry))) count (self .number) ⌝ }
         ensures bound { λ r. ⌜ r ≤ total ⌝ }
     {

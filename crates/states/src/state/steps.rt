@@ -16,9 +16,21 @@ use sheet::Sheet;
 impl State {
     // What the sheet reads of the state.
     fn low(self, sheet: &Sheet) -> u64
-        ensures { λ r. ⌜ r ≡ low (count-of (now (sheet .entry))) (self .number) ⌝ }
+        ensures value { λ r. ⌜ r ≡ low (count-of (now (sheet .entry))) (self .number) ⌝ }
+        ensures within { λ r. ⌜ r < 2 ^ count-of (now (sheet .entry)) ⌝ }
+        ensures bound { λ r. ⌜ r < 2 ^ 40 ⌝ }
     {
         self.number % power(sheet.count())
+    }
+
+    // The state as the sheet reads it: its parts that are on the sheet.
+    pub fn on_sheet(self, sheet: &Sheet) -> State
+        ensures value { λ r. ⌜ r .number ≡ low (count-of (now (sheet .entry))) (self .number) ⌝ }
+        ensures within { λ r. ⌜ r .number < 2 ^ count-of (now (sheet .entry)) ⌝ }
+    {
+        State {
+            number: self.low(sheet),
+        }
     }
 
     // The greatest part of the sheet that is in the set; 0 where none is.
@@ -70,6 +82,7 @@ impl State {
     // The state's mass on the sheet: its probability, out of the total of 10^18, rounded part by part.
     pub fn mass(self, sheet: &Sheet) -> u64
         ensures value { λ r. ⌜ r ≡ mass (figures-of (now (sheet .entry))) (self .number) ⌝ }
+        ensures as_read { λ r. ⌜ r ≡ mass (figures-of (now (sheet .entry))) (low (count-of (now (sheet .entry))) (self .number)) ⌝ }
         ensures bound { λ r. ⌜ r ≤ total ⌝ }
     {
         self.left_after(sheet, sheet.count())

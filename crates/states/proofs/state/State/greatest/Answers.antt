@@ -12,5 +12,5 @@ pub returns : need.returns
 returns c =
     let n = count-of (c .args .sheet .now) in
     let x = c .args .self .number in
-    let is = ap (λ z. 64 - leadingZeros 64 z) (c .low .ensures) ∙ top-leading n x (few-parts (c .args .sheet .now)) in
+    let is = ap (λ z. 64 - leadingZeros 64 z) (c .low .ensures .value) ∙ top-leading n x (few-parts (c .args .sheet .now)) in
     record { value = is; empty = λ e. low-empty n x (sym is ∙ e); figures = is ∙ sym (ap (λ k. top k x) (count-is (c .args .sheet .now))); bound = omega (arith, is, top-le n x) }

@@ -7,7 +7,7 @@ use lib.ListN.{length, getD}
 use Rattle.std.proofs.shelf.Lists.{getD-map}
 use Rattle.sheet.specs.Parts.{figures-of, figure-of, parts-of}
 use Rattle.states.specs.Masses.{total, after}
-use Rattle.states.proofs.Masses.{after-more, after-none, all-masses, figures-fine}
+use Rattle.states.proofs.Masses.{after-more, after-none, all-masses, figures-fine, mass-read}
 use Rattle.states.proofs.Sheets.{count-is}
 use Rattle.states.proofs.Steps.{left-is}
 use Rattle.states.proofs.state.State.left_after.Needs as need
@@ -37,6 +37,7 @@ returns c =
       value = value;
       before = none;
       all-states = λ e. none e ∙ sym (all-masses s);
+      as-read = λ e. value ∙ ap (λ l. after (figures-of s) l (c .args .self .number)) (e ∙ sym (count-is s)) ∙ sym (mass-read s (c .args .self .number));
       whole = λ e. value ∙ ap (λ l. after (figures-of s) l (c .args .self .number)) (e ∙ sym (count-is s));
       masses = value ∙ left-is (figures-of s) (figures-fine s) count (c .args .self .number) (omega (arith, count-is s));
       bound = c .loop-l .inv .1;

@@ -6,9 +6,9 @@ use Rattle.states.proofs.state.State.with_moved.Needs as need
 pub ghost-result : need.ghost-result
 ghost-result c =
     let s = c .args .sheet .now in
-    (move-fits (count-of s) (c .args .self .number) _ _ _ (few-parts s) (c .low .ensures) (c .pre .greatest) (c .power .ensures) (c .pre .some) (c .pre .room), tt)
+    (move-fits (count-of s) (c .args .self .number) _ _ _ (few-parts s) (c .low .ensures .value) (c .pre .greatest) (c .power .ensures) (c .pre .some) (c .pre .room), tt)
 
 pub returns : need.returns
 returns c =
     let s = c .args .sheet .now in
-    move-is (count-of s) (c .args .self .number) _ _ _ (few-parts s) (c .low .ensures) (c .pre .greatest) (c .power .ensures) (c .pre .some)
+    move-is (count-of s) (c .args .self .number) _ _ _ (few-parts s) (c .low .ensures .value) (c .pre .greatest) (c .power .ensures) (c .pre .some)

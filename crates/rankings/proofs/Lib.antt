@@ -1,0 +1,3 @@
+pub mod Counting
+pub mod Exactly
+pub mod Orders
