@@ -2,14 +2,17 @@
 use mathlib.Core.Path.{_≡_, refl, sym, _∙_, ap, subst}
 use mathlib.Core.Bool.{Bool, true, false, not, xor, cond, _&&_, _||_, or-comm}
 use mathlib.Core.Logic.{⊎-elim}
-use Prim.Native.Nat.{ℕ, pred, _+_, _-_, _*_, _^_, _≤_, _<_}
+use Prim.Native.Nat.{ℕ, zero, suc, pred, _+_, _-_, _*_, _%_, _^_, _≤_, _<_}
+use native.Mathlib.Nat.{mod-eq-of-lt, mod-lt, mod-one, zero-add}
 use native.Mathlib.Omega.{arith}
 use borrow.Author.Tests.{eq-eqb, ne-eqb, eqb-true, eqb-false}
-use lib.Bits.{bitAnd, bitOr, bitXor, or-disjoint, and-le-r, xor-add-and, and-comm}
+use lib.Bits.{bitAnd, bitOr, bitXor, or-disjoint, or-lt, and-le-r, xor-add-and, and-comm}
+use lib.Count.{ones, ones-cat, ones-ones}
+use lib.Pow.{pow-lt, pow-pos}
 use lib.Dec.{eqb}
-use Rattle.std.proofs.shelf.Tests.{cases-eq, and-left, and-right, or-right}
-use Rattle.states.specs.Sets.{bit, has, with-part, without-part, Within, disjoint}
-use Rattle.states.proofs.Bits.{bit-and, bit-or, bit-xor, bit-power, bit-nothing, same-bits}
+use Rattle.std.proofs.shelf.Tests.{cases-eq, and-left, and-right, and-parts, and-from, or-left, or-right, or-cases, cond-both}
+use Rattle.states.specs.Sets.{bit, has, with-part, without-part, Within, disjoint, difference, size}
+use Rattle.states.proofs.Bits.{bit-and, bit-or, bit-xor, bit-power, bit-nothing, same-bits, low-more}
 
 xor-self : xor true true ≡ false
 unfolding xor
@@ -120,3 +123,56 @@ sound-within x y k w h = go (bit k x) (within-bit x y k w)
 
 pub disjoint-within : (p x y : ℕ) → Within x y → disjoint p y ≡ true → disjoint p x ≡ true
 disjoint-within p x y w d = disjoint-from p x (λ k h. sound-within x y k w (disjoint-bit p y k d h))
+
+-- the difference of two sets, place by place
+pub bit-difference : (k x y : ℕ) → bit k (difference x y) ≡ (bit k x && not (bit k y))
+unfolding xor
+bit-difference k x y =
+    let common : ℕ = bitAnd x y in
+    let inside : Within common x = within-from common x (λ j t. and-parts (bit j x) (bit j y) (sym (bit-and j x y) ∙ t) .0) in
+    let e : difference x y ≡ bitXor x common = omega (arith, xor-add-and x common, and-comm x common, inside) in
+    ap (bit k) e ∙ bit-xor k x common ∙ ap (xor (bit k x)) (bit-and k x y) ∙ lost (bit k x) (bit k y)
+  where
+    lost : (a b : Bool) → xor a (a && b) ≡ (a && not b)
+    lost true true = refl
+    lost true false = refl
+    lost false b = refl
+
+-- the number of ones of a number is the size of its set
+ones-low : (n x : ℕ) → ones (x % 2 ^ n) ≡ size n x
+unfolding size
+ones-low zero x = ap ones (mod-one x) ∙ ones-ones 0
+ones-low (suc n) x = ap ones (low-more n x) ∙ go (bit n x) (ones-low n x)
+  where
+    one-more : ones (2 ^ n + x % 2 ^ n) ≡ 1 + ones (x % 2 ^ n)
+    one-more =
+        let e : 2 ^ n + x % 2 ^ n ≡ 1 * 2 ^ n + x % 2 ^ n = omega arith in
+        ap ones e ∙ ones-cat n 1 (x % 2 ^ n) (mod-lt x (pow-pos n)) ∙ ap (λ k. k + ones (x % 2 ^ n)) (ones-ones 1)
+
+    go : (b : Bool) → ones (x % 2 ^ n) ≡ size n x → ones (cond b (2 ^ n + x % 2 ^ n) (x % 2 ^ n)) ≡ cond b 1 0 + size n x
+    go true ih = one-more ∙ ap (λ k. 1 + k) ih
+    go false ih = ih ∙ sym (zero-add (size n x))
+
+pub ones-size : (x : ℕ) → x < 2 ^ 40 → ones x ≡ size 40 x
+ones-size x h = ap ones (sym (mod-eq-of-lt h)) ∙ ones-low 40 x
+
+-- sets with a part, and without it, keep containment and the bound
+pub with-fits : (i x : ℕ) → i ≤ 40 → x < 2 ^ 40 → with-part i x < 2 ^ 40
+with-fits i x h f =
+    let small : pred i < 40 = omega arith in
+    subst (λ n. n < 2 ^ 40) (or-with i x) (or-lt 40 x (2 ^ pred i) f (pow-lt small))
+
+pub without-fits : (i x : ℕ) → x < 2 ^ 40 → without-part i x < 2 ^ 40
+unfolding without-part
+without-fits i x f = cond-both (has i x) (x - 2 ^ pred i) x (λ n. n < 2 ^ 40) (λ t. omega arith) (λ t. f)
+
+pub with-within : (i x y : ℕ) → Within x y → Within (with-part i x) (with-part i y)
+with-within i x y w =
+    within-from (with-part i x) (with-part i y)
+    (λ k t. bit-with i k y ∙ ⊎-elim (λ e. or-left (eqb k (pred i)) _ e) (λ h. or-right (eqb k (pred i)) _ (within-bit x y k w h)) (or-cases _ _ (sym (bit-with i k x) ∙ t)))
+
+pub without-within : (i x y : ℕ) → Within x y → Within (without-part i x) (without-part i y)
+without-within i x y w =
+    within-from (without-part i x) (without-part i y)
+    (λ k t. let both = and-parts (not (eqb k (pred i))) (bit k x) (sym (bit-without i k x) ∙ t) in
+    bit-without i k y ∙ and-from _ _ (both .0) (within-bit x y k w (both .1)))

@@ -1,7 +1,7 @@
 -- Sets of parts by their numbers: a set's number sums 2 ^ (i - 1) over its parts i. Assumes nothing.
 use mathlib.Core.Path.{_≡_}
 use mathlib.Core.Bool.{Bool, cond}
-use Prim.Native.Nat.{ℕ, pred, _+_, _-_, _/_, _%_, _^_}
+use Prim.Native.Nat.{ℕ, zero, suc, pred, _+_, _-_, _/_, _%_, _^_}
 use lib.Bits.{bitAnd, bitOr}
 use lib.Dec.{eqb}
 
@@ -35,3 +35,12 @@ within x y = eqb (bitAnd x y) x
 -- no part of x is in y
 abbrev pub disjoint : ℕ → ℕ → Bool
 disjoint x y = eqb (bitAnd x y) 0
+
+-- the parts of x that are not in y
+abbrev pub difference : ℕ → ℕ → ℕ
+difference x y = x - bitAnd x y
+
+-- how many of parts 1 to n are in x
+unfoldable pub size : ℕ → ℕ → ℕ
+size zero x = 0
+size (suc n) x = cond (has (suc n) x) 1 0 + size n x

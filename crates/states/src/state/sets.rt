@@ -2,7 +2,7 @@ ghost use mathlib.Core.Path.{_≡_};
 ghost use mathlib.Core.Bool.{true, false, not, _&&_, _||_};
 ghost use Prim.Native.Nat.{ℕ, _<_, _^_, _%_};
 ghost use lib.Dec.{eqb};
-ghost use Rattle.states.specs.Sets.{bit, has, with-part, without-part, union, within, disjoint};
+ghost use Rattle.states.specs.Sets.{bit, has, with-part, without-part, union, within, disjoint, difference, size};
 use super::State;
 use super::power;
 use sheet::PartNumber;
@@ -61,6 +61,22 @@ fn number_disjoint(one: u64, other: u64) -> bool
     ensures all_parts { λ r. ⌜ (((j : ℕ) → has j one ≡ true → has j other ≡ false) → r ≡ true) ⌝ }
 {
     one & other == 0
+}
+
+fn number_difference(one: u64, other: u64) -> u64
+    requires { ⌜ one < 2 ^ 40 ⌝ }
+    ensures value { λ r. ⌜ r ≡ difference one other ⌝ }
+    ensures parts { λ r. ⌜ ((j : ℕ) → has j r ≡ (has j one && not (has j other))) ⌝ }
+    ensures bound { λ r. ⌜ r < 2 ^ 40 ⌝ }
+{
+    one - (one & other)
+}
+
+fn number_size(number: u64) -> u32
+    requires { ⌜ number < 2 ^ 40 ⌝ }
+    ensures { λ r. ⌜ r ≡ size 40 number ⌝ }
+{
+    number.count_ones()
 }
 
 impl State {
@@ -133,5 +149,22 @@ impl State {
         ensures all_parts { λ r. ⌜ (((j : ℕ) → has j (self .number) ≡ true → has j (other .number) ≡ false) → r ≡ true) ⌝ }
     {
         number_disjoint(self.number, other.number)
+    }
+
+    // The parts of this set that are not in the other.
+    pub fn difference(self, other: State) -> State
+        ensures value { λ r. ⌜ r .number ≡ difference (self .number) (other .number) ⌝ }
+        ensures parts { λ r. ⌜ ((j : ℕ) → has j (r .number) ≡ (has j (self .number) && not (has j (other .number)))) ⌝ }
+    {
+        State {
+            number: number_difference(self.number, other.number),
+        }
+    }
+
+    // How many parts are in the set.
+    pub fn size(self) -> u32
+        ensures { λ r. ⌜ r ≡ size 40 (self .number) ⌝ }
+    {
+        number_size(self.number)
     }
 }
