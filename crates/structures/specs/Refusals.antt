@@ -1,8 +1,6 @@
 -- Each refusal's number in the table of refusals, then its values; nothing for what has no number there. Assumes nothing.
 use mathlib.Core.List.{List, [], _∷_}
 use Prim.Native.Nat.{ℕ}
-use Rattle.structures.specs.declared.refusal.NetworkError.{NetworkError}
-use Rattle.structures.specs.declared.refusal.NetworkError.the-variants as network
 use Rattle.structures.specs.declared.refusal.PathListError.{PathListError}
 use Rattle.structures.specs.declared.refusal.PathListError.the-variants.{TooManyPaths, PartTooHigh, OutOfMemory}
 
@@ -10,9 +8,3 @@ abbrev pub path-list-refusal : PathListError → List ℕ
 path-list-refusal TooManyPaths = 6 ∷ []
 path-list-refusal (PartTooHigh place) = 7 ∷ (place ∷ [])
 path-list-refusal OutOfMemory = []
-
-abbrev pub network-refusal : NetworkError → List ℕ
-network-refusal network.TooManyLinks = 8 ∷ []
-network-refusal network.MastTooHigh = 9 ∷ []
-network-refusal network.NotAPart = 10 ∷ []
-network-refusal network.OutOfMemory = []

@@ -6,11 +6,13 @@ use Rattle.states.specs.Masses.{after}
 use Rattle.states.specs.Sets.{bit, with-part, without-part}
 use Rattle.states.specs.Steps.{top}
 use Rattle.structures.specs.Meanings.{sound-parts}
+use Rattle.networks.specs.Networks.{network-works, rounds}
+use Rattle.networks.proofs.Rounds.{same-terminals}
 use Rattle.rankings.specs.Points.{points-upto}
 use Rattle.worked_cases.specs.Worked.{Worked-cases}
 
 pub worked : Worked-cases
-unfolding figure table after bit top sound-parts points-upto
+unfolding figure table after bit top sound-parts points-upto network-works rounds
 worked = record {
   two-failed = refl;
   two-failed-share = refl;
@@ -33,4 +35,7 @@ worked = record {
   quorum-of-none = λ x. leb·zero (sound-parts 40 0 x);
   bypass-sound = refl;
   bypass-failed = refl;
+  two-ways = refl;
+  no-way = refl;
+  equal-terminals = same-terminals;
 }

@@ -8,6 +8,8 @@ use Rattle.sheet.specs.Grades.{figure}
 use Rattle.states.specs.Masses.{mass}
 use Rattle.states.specs.Steps.{share}
 use Rattle.structures.specs.Meanings.{path-list-works, quorum-works, feed-works, bypass-works}
+use Rattle.networks.specs.Networks.{network-works}
+use Rattle.networks.specs.declared.link.Link.{Link}
 use Rattle.rankings.specs.Exact.{heavier}
 use Rattle.rankings.specs.Orders.{ahead}
 use Rattle.rankings.specs.Points.{fewer}
@@ -35,6 +37,11 @@ mixed = 3 ∷ (3 ∷ (6 ∷ []))
 -- two parts of grade 0
 abbrev pub even : List ℕ
 even = figures (0 ∷ (0 ∷ []))
+
+-- links between masts 0 and 1 with part 1, 1 and 2 with part 2, 0 and 2 with part 3
+abbrev pub triangle : List Link
+triangle =
+    record { one = 0; other = 1; part = 1 } ∷ (record { one = 1; other = 2; part = 2 } ∷ (record { one = 0; other = 2; part = 3 } ∷ []))
 
 pub record Worked-cases : Type 0 where
   -- masses and shares
@@ -64,3 +71,7 @@ pub record Worked-cases : Type 0 where
   -- bypass 3 above the two paths
   pub bypass-sound : bypass-works 3 either 3 ≡ true
   pub bypass-failed : bypass-works 3 either 7 ≡ false
+  -- the triangle of links, from mast 0 to mast 2; and equal terminals
+  pub two-ways : network-works 0 2 triangle 1 ≡ true
+  pub no-way : network-works 0 2 triangle 5 ≡ false
+  pub equal-terminals : (t : ℕ) (links : List Link) (x : ℕ) → network-works t t links x ≡ true

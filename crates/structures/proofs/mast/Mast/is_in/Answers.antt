@@ -1,7 +1,0 @@
-use mathlib.Core.Path.{refl}
-use Rattle.states.specs.Sets.{bit}
-use Rattle.structures.proofs.mast.Mast.is_in.Needs as need
-
-pub returns : need.returns
-unfolding bit
-returns c = refl
