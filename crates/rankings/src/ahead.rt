@@ -27,10 +27,7 @@ pub fn is_ahead<R: Ranking>(ranking: &R, sheet: &Sheet, first: State, second: St
     ensures value { λ r. ⌜ r ≡ ahead (R·Ranking .outranks (now (ranking .entry)) (now (sheet .entry))) (low (count-of (now (sheet .entry))) (first .number)) (low (count-of (now (sheet .entry))) (second .number)) ⌝ }
     ensures order { λ _. ⌜ Strict-order (count-of (now (sheet .entry))) (ahead (R·Ranking .outranks (now (ranking .entry)) (now (sheet .entry)))) ⌝ }
 {
-    is_first(
-        ranking,
-        sheet,
-        first.on_sheet(sheet),
-        second.on_sheet(sheet),
-    )
+    let one = first.on_sheet(sheet);
+    let other = second.on_sheet(sheet);
+    is_first(ranking, sheet, one, other)
 }
