@@ -3,3 +3,4 @@ pub mod Masses
 pub mod Sets
 pub mod Steps
 pub mod Sums
+pub mod Trees
