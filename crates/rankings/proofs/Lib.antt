@@ -1,3 +1,4 @@
 pub mod Counting
 pub mod Exactly
 pub mod Orders
+pub mod Trees

@@ -1,7 +1,10 @@
 pub mod Bits
+pub mod Indicators
+pub mod Lists
 pub mod Masses
 pub mod Sets
 pub mod Sheets
 pub mod Sizes
 pub mod Steps
 pub mod Sums
+pub mod Trees

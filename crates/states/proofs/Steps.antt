@@ -91,14 +91,14 @@ module _ (n z y : ℕ) (on-sheet : z < 2 ^ n) where
   same : low n z ≡ z
   same = mod-eq-of-lt on-sheet
 
-  by-add : add-step n z ≡ y ∷ [] → (top n z < n) × (y ≡ z + 2 ^ top n z)
+  pub by-add : add-step n z ≡ y ∷ [] → (top n z < n) × (y ≡ z + 2 ^ top n z)
   by-add s = go (ltb (top n z) n) refl s
     where
       go : (b : Bool) → ltb (top n z) n ≡ b → cond b (with-part (suc (top n z)) (low n z) ∷ []) [] ≡ y ∷ [] → (top n z < n) × (y ≡ z + 2 ^ top n z)
       go true t e = (ltb-true _ _ t, (let h : y ≡ with-part (suc (top n z)) (low n z) = cc in h) ∙ add-number n z ∙ ap (λ w. w + 2 ^ top n z) same)
       go false t e = absurd (let w : _≡_ {A = ℕ} 0 1 = cc in omega arith)
 
-  by-move : move-step n z ≡ y ∷ [] → (m : ℕ) × (top n z ≡ suc m) × (suc m < n) × (y ≡ z + 2 ^ m)
+  pub by-move : move-step n z ≡ y ∷ [] → (m : ℕ) × (top n z ≡ suc m) × (suc m < n) × (y ≡ z + 2 ^ m)
   by-move s = go (ltb 0 (top n z) && ltb (top n z) n) refl s
     where
       go : (b : Bool) → (ltb 0 (top n z) && ltb (top n z) n) ≡ b → cond b (with-part (suc (top n z)) (without-part (top n z) (low n z)) ∷ []) [] ≡ y ∷ []
@@ -112,12 +112,12 @@ module _ (n z y : ℕ) (on-sheet : z < 2 ^ n) where
           (m, is, omega (arith, ltb-true _ _ (both .1)), h ∙ move-number n z m is ∙ ap (λ w. w + 2 ^ m) same)
       go false t e = absurd (let w : _≡_ {A = ℕ} 0 1 = cc in omega arith)
 
-  to-add : top n z < n → y ≡ z + 2 ^ top n z → add-step n z ≡ y ∷ []
+  pub to-add : top n z < n → y ≡ z + 2 ^ top n z → add-step n z ≡ y ∷ []
   to-add h e =
       cond-true (ltb (top n z) n) _ _ (lt-ltb (top n z) n h)
       ∙ ap (λ w. w ∷ []) (add-number n z ∙ ap (λ w. w + 2 ^ top n z) same ∙ sym e)
 
-  to-move : (m : ℕ) → top n z ≡ suc m → suc m < n → y ≡ z + 2 ^ m → move-step n z ≡ y ∷ []
+  pub to-move : (m : ℕ) → top n z ≡ suc m → suc m < n → y ≡ z + 2 ^ m → move-step n z ≡ y ∷ []
   to-move m is h e =
       cond-true (ltb 0 (top n z) && ltb (top n z) n) _ _ (and-from _ _ (lt-ltb 0 (top n z) (omega arith)) (lt-ltb (top n z) n (omega arith)))
       ∙ ap (λ w. w ∷ []) (move-number n z m is ∙ ap (λ w. w + 2 ^ m) same ∙ sym e)
@@ -127,12 +127,12 @@ abbrev pub back : ℕ → ℕ → ℕ
 back t y = cond (ltb (y - 2 ^ t) (2 ^ t / 2)) (y - 2 ^ t + 2 ^ t / 2) (y - 2 ^ t)
 
 -- the greatest part after a step
-after-add : (n z t : ℕ) → z < 2 ^ n → z + 2 ^ t < 2 ^ n → top n z ≡ t → top n (z + 2 ^ t) ≡ suc t
+pub after-add : (n z t : ℕ) → z < 2 ^ n → z + 2 ^ t < 2 ^ n → top n z ≡ t → top n (z + 2 ^ t) ≡ suc t
 after-add n z t h on-sheet e =
     let down = rw (mod-eq-of-lt h, e) at (low-below n z) in
     top-is n (suc t) (z + 2 ^ t) on-sheet (omega (arith, two-pow-succ t)) (omega (arith, two-pow-succ t))
 
-after-move : (n z m : ℕ) → z < 2 ^ n → z + 2 ^ m < 2 ^ n → top n z ≡ suc m → top n (z + 2 ^ m) ≡ suc (suc m)
+pub after-move : (n z m : ℕ) → z < 2 ^ n → z + 2 ^ m < 2 ^ n → top n z ≡ suc m → top n (z + 2 ^ m) ≡ suc (suc m)
 after-move n z m h on-sheet e =
     let down = rw (mod-eq-of-lt h, e) at (low-below n z) in
     let up = rw (mod-eq-of-lt h, e) at (low-reaches n z) in

@@ -1,11 +1,12 @@
--- Sums over the numbers below m. Assumes nothing.
+-- Sums over the numbers below m, and over lists. Assumes nothing.
 use mathlib.Core.Path.{_≡_, refl, sym, _∙_, ap, ap₂}
+use mathlib.Core.List.{List, [], _∷_}
 use mathlib.Core.Bool.{Bool, true, false, cond}
 use Prim.Native.Nat.{ℕ, zero, suc, _+_, _-_, _<_, _≤_}
 use native.Mathlib.Omega.{arith}
 use mathlib.Core.Logic.{⊎-elim}
 use Rattle.std.proofs.shelf.Tests.{cases-eq}
-use Rattle.states.specs.Sums.{sum-below}
+use Rattle.states.specs.Sums.{sum-below, sum-of}
 
 pub sum-same : (m : ℕ) (f g : ℕ → ℕ) → ((x : ℕ) → x < m → f x ≡ g x) → sum-below m f ≡ sum-below m g
 unfolding sum-below
@@ -52,3 +53,8 @@ sum-more m h = let e : m + 1 ≡ suc m = omega arith in rw e (omega arith)
 pub sum-none : (h : ℕ → ℕ) → 0 ≡ sum-below 0 h
 unfolding sum-below
 sum-none h = refl
+
+-- sums below m of sums over a list, the other way round
+pub sum-swap : (m : ℕ) (f : ℕ → ℕ → ℕ) (zs : List ℕ) → sum-below m (λ y. sum-of (λ z. f z y) zs) ≡ sum-of (λ z. sum-below m (f z)) zs
+sum-swap m f [] = sum-nothing m (λ y. 0) (λ y h. refl)
+sum-swap m f (z ∷ zs) = sum-add m (f z) (λ y. sum-of (λ w. f w y) zs) ∙ ap (λ k. sum-below m (f z) + k) (sum-swap m f zs)

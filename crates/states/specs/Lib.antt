@@ -1,4 +1,5 @@
 pub mod Answers
+pub mod Lists
 pub mod Masses
 pub mod Sets
 pub mod Steps

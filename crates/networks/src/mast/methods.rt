@@ -6,7 +6,7 @@ ghost use Rattle.networks.specs.Networks.{with-mast};
 use super::Mast;
 
 impl Mast {
-    pub const HIGHEST: u8 = 15;
+    pub(crate) const HIGHEST: u8 = 15;
 
     // The mast of this number; none above 15.
     pub(crate) fn new(number: u8) -> Option<Mast>

@@ -24,7 +24,7 @@ use structures::Structure;
 fn has_end_high(link: &Link) -> bool
     ensures { λ r. ⌜ r ≡ end-too-high (now (link .entry)) ⌝ }
 {
-    link.one > 15 || link.other > 15
+    link.one > Mast::HIGHEST || link.other > Mast::HIGHEST
 }
 
 // Whether the link's part is not 1 to 40.
@@ -34,6 +34,7 @@ fn has_part_unknown(link: &Link) -> bool
     link.part < 1 || link.part > 40
 }
 
+// Whether some link has an end above 15.
 fn some_end_high(links: &[Link]) -> bool
     ensures { λ r. ⌜ r ≡ some-link end-too-high (now (links .entry)) ⌝ }
 {
@@ -45,6 +46,7 @@ fn some_end_high(links: &[Link]) -> bool
     false
 }
 
+// Whether some link has a part that is not 1 to 40.
 fn some_part_unknown(links: &[Link]) -> bool
     ensures { λ r. ⌜ r ≡ some-link part-unknown (now (links .entry)) ⌝ }
 {
@@ -56,6 +58,7 @@ fn some_part_unknown(links: &[Link]) -> bool
     false
 }
 
+// The link, typed.
 fn wire(link: Link) -> Wire
     requires one { ⌜ link .one ≤ 15 ⌝ }
     requires other { ⌜ link .other ≤ 15 ⌝ }
@@ -70,6 +73,7 @@ fn wire(link: Link) -> Wire
     }
 }
 
+// The links, typed.
 fn wires_of(heap: Global, links: &[Link]) -> Result<Vec<Wire>, AllocError>
     requires ends { ⌜ some-link end-too-high (now links) ≡ false ⌝ }
     requires parts { ⌜ some-link part-unknown (now links) ≡ false ⌝ }
@@ -83,7 +87,7 @@ fn wires_of(heap: Global, links: &[Link]) -> Result<Vec<Wire>, AllocError>
 }
 
 impl Network {
-    // The network of these links between these terminals: at most 64, between masts 0 to 15.
+    // The network of these links and terminals: at most 64 links, masts 0 to 15, parts 1 to 40.
     pub fn new(heap: Global, from: u8, to: u8, links: &[Link]) -> Result<Network, NetworkError>
         ensures { λ r. ⌜ Wired from to (now (links .entry)) r ⌝ }
     {

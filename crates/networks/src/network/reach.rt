@@ -8,7 +8,7 @@ use super::Wire;
 use crate::mast::Mast;
 use states::State;
 
-// The masts reached, where this link may lead on.
+// The masts reached, with both ends of the link if it is sound and one of them is reached.
 fn over(wire: &Wire, state: State, reached: u16) -> u16
     ensures { λ r. ⌜ r ≡ over-link (state .number) (link-of (now (wire .entry))) reached ⌝ }
 {
@@ -30,7 +30,7 @@ fn round(wires: &[Wire], state: State, start: u16) -> u16
     reached
 }
 
-// The masts reached from this one: a round that adds none is the last that matters, and there are 16 masts.
+// The masts reached from this one. A round adds a mast or is the last that matters, and there are 16 masts.
 fn all_reached(wires: &[Wire], state: State, from: Mast) -> u16
     ensures { λ r. ⌜ r ≡ rounds 16 (state .number) (map link-of (now (wires .entry))) (2 ^ from .number) ⌝ }
 {

@@ -1,0 +1,4 @@
+pub mod Accounts
+pub mod Best
+pub mod Invariant
+pub mod Lawfully

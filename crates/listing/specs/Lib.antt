@@ -1,0 +1,5 @@
+pub mod Calls
+pub mod Handing
+pub mod Law
+pub mod Memories
+pub mod Stations
