@@ -21,7 +21,7 @@ use Rattle.states.proofs.Trees.{cone-contains, cone-step}
 use Rattle.rankings.specs.Orders.{ahead, Strict-order}
 use Rattle.rankings.proofs.Orders.{strict-order}
 use Rattle.rankings.proofs.Trees.{root-first}
-use Rattle.listing.specs.Calls.{Runs, ends-here, goes-on, Led, none, by-next, by-run, by-refused-run, by-figures, ran-out, Ends}
+use Rattle.listing.specs.Calls.{Runs, ends-here, goes-on, Step, next-step, run-step, refused-step, figures-step, Led, none, more, ran-out, Ends}
 use Rattle.listing.specs.Handing.{Next-answer, handed-out, finished, full, Foremost, Hands-out, Next, handed-by, is-finished}
 use Rattle.listing.specs.Law.{Covered, Listing-law}
 use Rattle.listing.specs.Memories.{Memory, opened, lower, upper, rounded-up}
@@ -54,7 +54,7 @@ module _ (w : Station) (laws : Lawful w) where
   order = strict-order (parts w) (w .outranks) (laws .one-way) (laws .through)
 
   -- two states are not ahead of each other
-  never-both : (x y : ℕ) → On-sheet w x → On-sheet w y → Ahead w x y → Ahead w y x → ⊥
+  pub never-both : (x y : ℕ) → On-sheet w x → On-sheet w y → Ahead w x y → Ahead w y x → ⊥
   never-both x y x-on y-on a b = clash (sym (order .not-itself x x-on) ∙ order .passes-on x y x x-on y-on x-on a b)
 
   -- whatever is ahead of the foremost was handed out, or contains a failing one that was
@@ -115,16 +115,19 @@ module _ (w : Station) (laws : Lawful w) where
       subst (λ zs. Lasting w zs (f || ran-out e) l₂) (append-assoc xs (x ∷ []) ys)
       (lasting-runs target budget (xs ++ x ∷ []) f (lasting-next xs f _ x l₁ a (next .0)) rest)
 
+  lasting-step : (xs : List ℕ) (f : Bool) {c : Call} {l l′ : Memory} {ys : List ℕ} {g : Bool} → Lasting w xs f l → Step w c l ys g l′ → Lasting w (xs ++ ys) (f || g) l′
+  lasting-step xs f {l = l} {l′ = l′} k (next-step a next) = lasting-answer xs f l l′ a k next
+  lasting-step xs f k (run-step {target = target} {budget = budget} e small runs) = lasting-runs target budget xs f k runs
+  lasting-step xs f {l = l} k (refused-step high) = lasting-same xs f false l l k (λ t. absurd (clash t)) refl
+  lasting-step xs f {l = l} k figures-step = lasting-same xs f false l l k (λ t. absurd (clash t)) refl
+
   pub lasts : {cs : List Call} {xs : List ℕ} {f : Bool} {l : Memory} → Led w cs xs f l → Lasting w xs f l
   lasts none = record { kept = kept-opened w; passed = λ before z e. absurd (no-last before z e); done = λ t. absurd (clash t) }
     where
       no-last : (before : List ℕ) (z : ℕ) → [] ≡ before ++ z ∷ [] → ⊥
       no-last [] z e = let c : _≡_ {A = ℕ} 0 1 = cc in omega arith
       no-last (b ∷ bs) z e = let c : _≡_ {A = ℕ} 0 1 = cc in omega arith
-  lasts (by-next {xs = xs} {f = f} {l = l} {l′ = l′} a led next) = lasting-answer xs f l l′ a (lasts led) next
-  lasts (by-run {xs = xs} {f = f} {target = target} {budget = budget} e led small runs) = lasting-runs target budget xs f (lasts led) runs
-  lasts (by-refused-run budget led high) = lasts led
-  lasts (by-figures led) = lasts led
+  lasts (more cs c xs ys f g led step) = lasting-step xs f (lasts led) step
 
   module _ (xs : List ℕ) (f : Bool) (l : Memory) (a : Lasting w xs f l) where
     k : Kept w xs l

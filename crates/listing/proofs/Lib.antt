@@ -1,4 +1,6 @@
 pub mod Accounts
 pub mod Best
+pub mod Bounds
 pub mod Invariant
 pub mod Lawfully
+pub mod Unique

@@ -40,13 +40,16 @@ ran-out ends.Finished = true
 ran-out ends.Spent = false
 ran-out ends.Full = false
 
--- the calls cs, made since open, hand out xs in all and leave l; whether one of them answered 'finished' comes before l
+-- what a call does at l: it hands out xs, its answer is 'finished' or not, and it leaves l′
+pub data Step (w : Station) : Call → Memory → List ℕ → Bool → Memory → Type 0 where
+  next-step : {l l′ : Memory} (a : Next-answer) → Next w l a l′ → Step w call.Next l (handed-by a) (is-finished a) l′
+  run-step : {target budget : ℕ} {l l′ : Memory} {xs : List ℕ} (e : Ending) → target ≤ 1000000 → Runs w target budget 0 l e xs l′
+      → Step w (call.Run target budget) l xs (ran-out e) l′
+  refused-step : {target budget : ℕ} {l : Memory} → 1000000 < target → Step w (call.Run target budget) l [] false l
+  figures-step : {l : Memory} → Step w call.Figures l [] false l
+
+-- the calls cs, made since open, hand out xs in all and leave l; f says whether one of them answered 'finished'
 pub data Led (w : Station) : List Call → List ℕ → Bool → Memory → Type 0 where
   none : Led w [] [] false opened
-  by-next : {cs : List Call} {xs : List ℕ} {f : Bool} {l l′ : Memory} (a : Next-answer) → Led w cs xs f l → Next w l a l′
-      → Led w (cs ++ call.Next ∷ []) (xs ++ handed-by a) (f || is-finished a) l′
-  by-run : {cs : List Call} {xs ys : List ℕ} {f : Bool} {l l′ : Memory} {target budget : ℕ} (e : Ending) → Led w cs xs f l
-      → target ≤ 1000000 → Runs w target budget 0 l e ys l′ → Led w (cs ++ call.Run target budget ∷ []) (xs ++ ys) (f || ran-out e) l′
-  by-refused-run : {cs : List Call} {xs : List ℕ} {f : Bool} {l : Memory} {target : ℕ} (budget : ℕ) → Led w cs xs f l → 1000000 < target
-      → Led w (cs ++ call.Run target budget ∷ []) xs f l
-  by-figures : {cs : List Call} {xs : List ℕ} {f : Bool} {l : Memory} → Led w cs xs f l → Led w (cs ++ call.Figures ∷ []) xs f l
+  more : {l : Memory} (cs : List Call) (c : Call) (xs ys : List ℕ) (f g : Bool) {l′ : Memory} → Led w cs xs f l → Step w c l ys g l′
+      → Led w (cs ++ c ∷ []) (xs ++ ys) (f || g) l′
