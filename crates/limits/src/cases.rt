@@ -14,14 +14,14 @@ use structures::PathList;
 use structures::PathListStructure;
 use summation::sum_states;
 
-pub fn part_number_limits(rt: &LibcRuntime) -> Result<(), AnyError> {
+pub(crate) fn part_number_limits(rt: &LibcRuntime) -> Result<(), AnyError> {
     show(rt, "part number 0", of_part_number(PartNumber::new(0)))?;
     show(rt, "part number 1", of_part_number(PartNumber::new(1)))?;
     show(rt, "part number 40", of_part_number(PartNumber::new(40)))?;
     show(rt, "part number 41", of_part_number(PartNumber::new(41)))
 }
 
-pub fn part_limits(rt: &LibcRuntime) -> Result<(), AnyError> {
+pub(crate) fn part_limits(rt: &LibcRuntime) -> Result<(), AnyError> {
     let mut draft = Draft::new(rt.alloc());
     show(rt, "grade 40", of_add(draft.add(40, 0)))?;
     show(
@@ -54,7 +54,7 @@ pub fn part_limits(rt: &LibcRuntime) -> Result<(), AnyError> {
     show(rt, "part 41 of grade 40", of_add(draft.add(40, 1)))
 }
 
-pub fn path_limits(rt: &LibcRuntime) -> Result<(), AnyError> {
+pub(crate) fn path_limits(rt: &LibcRuntime) -> Result<(), AnyError> {
     let heap = rt.alloc();
     let mut paths = [1u64; 257];
     show(rt, "0 paths", of_paths(PathList::new(heap, &paths[0..0])))?;
@@ -83,7 +83,7 @@ pub fn path_limits(rt: &LibcRuntime) -> Result<(), AnyError> {
     )
 }
 
-pub fn link_limits(rt: &LibcRuntime) -> Result<(), AnyError> {
+pub(crate) fn link_limits(rt: &LibcRuntime) -> Result<(), AnyError> {
     let heap = rt.alloc();
     let good = Link {
         one: 0,
@@ -157,7 +157,7 @@ pub fn link_limits(rt: &LibcRuntime) -> Result<(), AnyError> {
 }
 
 // Two radios, either of which serves, with a feed that is not on the sheet, and so counts as sound.
-pub fn feed_off_the_sheet(rt: &LibcRuntime) -> Result<(), AnyError> {
+pub(crate) fn feed_off_the_sheet(rt: &LibcRuntime) -> Result<(), AnyError> {
     let heap = rt.alloc();
     let mut draft = Draft::new(heap);
     show(rt, "first radio", of_add(draft.add(7, 64_000)))?;

@@ -8,28 +8,28 @@ use structures::PathList;
 use structures::PathListError;
 
 // What came of a call: nothing where it was accepted, and else the refusal's number, 0 for one without a number.
-pub fn of_part_number(answer: Result<PartNumber, PartNumberError>) -> Option<u8> {
+pub(crate) fn of_part_number(answer: Result<PartNumber, PartNumberError>) -> Option<u8> {
     match answer {
         Ok(_) => None,
         Err(e) => Some(e.number().unwrap_or(0)),
     }
 }
 
-pub fn of_add(answer: Result<PartNumber, AddError>) -> Option<u8> {
+pub(crate) fn of_add(answer: Result<PartNumber, AddError>) -> Option<u8> {
     match answer {
         Ok(_) => None,
         Err(e) => Some(e.number().unwrap_or(0)),
     }
 }
 
-pub fn of_paths(answer: Result<PathList, PathListError>) -> Option<u8> {
+pub(crate) fn of_paths(answer: Result<PathList, PathListError>) -> Option<u8> {
     match answer {
         Ok(_) => None,
         Err(e) => Some(e.number().unwrap_or(0)),
     }
 }
 
-pub fn of_network(answer: Result<Network, NetworkError>) -> Option<u8> {
+pub(crate) fn of_network(answer: Result<Network, NetworkError>) -> Option<u8> {
     match answer {
         Ok(_) => None,
         Err(e) => Some(e.number().unwrap_or(0)),
@@ -37,7 +37,7 @@ pub fn of_network(answer: Result<Network, NetworkError>) -> Option<u8> {
 }
 
 // A line for the case.
-pub fn show(rt: &LibcRuntime, case: &str, refused: Option<u8>) -> Result<(), AnyError> {
+pub(crate) fn show(rt: &LibcRuntime, case: &str, refused: Option<u8>) -> Result<(), AnyError> {
     match refused {
         None => println!(rt, "{case},accepted")?,
         Some(number) => println!(rt, "{case},refused,{number}")?,

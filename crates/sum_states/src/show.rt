@@ -5,7 +5,7 @@ use structures::Structure;
 use summation::sum_states;
 
 // A line for each part: number, grade, failure figure in parts per million, price in cents.
-pub fn print_sheet(rt: &LibcRuntime, sheet: &Sheet) -> Result<(), AnyError> {
+pub(crate) fn print_sheet(rt: &LibcRuntime, sheet: &Sheet) -> Result<(), AnyError> {
     println!(rt, "part,grade,ppm,cents")?;
     for (place, part) in sheet.parts().iter().enumerate() {
         let number = place + 1;
@@ -18,7 +18,7 @@ pub fn print_sheet(rt: &LibcRuntime, sheet: &Sheet) -> Result<(), AnyError> {
 }
 
 // A line for each state of the sheet: number, mass, verdict.
-pub fn print_states<S: Structure>(
+pub(crate) fn print_states<S: Structure>(
     rt: &LibcRuntime,
     sheet: &Sheet,
     pile: &S,
@@ -34,7 +34,11 @@ pub fn print_states<S: Structure>(
 }
 
 // The sums over all states, out of 10^18, and the reliability in thousand-millionths.
-pub fn print_sums<S: Structure>(rt: &LibcRuntime, sheet: &Sheet, pile: &S) -> Result<(), AnyError> {
+pub(crate) fn print_sums<S: Structure>(
+    rt: &LibcRuntime,
+    sheet: &Sheet,
+    pile: &S,
+) -> Result<(), AnyError> {
     let Ok(sums) = sum_states(sheet, pile) else {
         return Err("more than 20 parts".into());
     };

@@ -29,14 +29,14 @@ fn station(
 }
 
 // Two radios, either of which serves, behind one power feed.
-pub fn small_station(heap: Global) -> Result<(Sheet, Feed<PathList>), AnyError> {
+pub(crate) fn small_station(heap: Global) -> Result<(Sheet, Feed<PathList>), AnyError> {
     let parts = [(7, 64_000), (7, 64_000), (17, 9_500)];
     station(heap, &parts, &[0b001, 0b010], 3)
 }
 
 // Two radios (parts 1 and 2), each with an amplifier of its own (3 and 4) and the spare amplifier (5) for either, two fans
 // (6 and 7) of which one must run, a controller (8) that every path needs, and the power feed (9).
-pub fn cabinet(heap: Global) -> Result<(Sheet, Feed<PathList>), AnyError> {
+pub(crate) fn cabinet(heap: Global) -> Result<(Sheet, Feed<PathList>), AnyError> {
     let parts = [
         (5, 182_000),
         (5, 182_000),
