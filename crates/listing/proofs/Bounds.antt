@@ -9,21 +9,27 @@ use borrow.Author.Tests.{le-ltb}
 use lib.Dec.{ltb, lit<, lit≤}
 use lib.ListN.{length}
 use lib.Pow.{pow-pos}
-use Rattle.std.proofs.shelf.Lists.{same-from-push, length-append, length-push}
+use Rattle.std.proofs.shelf.Lists.{same-from-push, length-append, length-push, append-nil, append-assoc}
 use Rattle.std.proofs.shelf.Tests.{cond-false, and-left}
+use Rattle.std.specs.shelf.Lists.{All}
 use Rattle.states.specs.Lists.{In}
 use Rattle.states.specs.Masses.{total}
 use Rattle.states.specs.Sets.{with-part}
 use Rattle.states.specs.Steps.{low, top, add-step, move-step}
+use Rattle.states.specs.Sums.{sum-of}
+use Rattle.states.specs.Trees.{tree-sum}
 use Rattle.states.proofs.Lists.{same-length}
+use Rattle.states.proofs.Trees.{tree-step}
 use Rattle.states.proofs.Steps.{top-is}
 use Rattle.listing.specs.Calls.{Runs, ends-here, goes-on, Step, next-step, run-step, refused-step, figures-step, Led, none, more}
-use Rattle.listing.specs.Handing.{Next-answer, handed-out, finished, full, next-states, Foremost, Hands-out, Next}
+use Rattle.listing.specs.Handing.{Next-answer, handed-out, finished, full, next-states, Foremost, Hands-out, Next, handed-by}
 use Rattle.listing.specs.Memories.{Memory, lower, upper}
-use Rattle.listing.specs.Stations.{Station, parts, up-in}
+use Rattle.listing.specs.Stations.{Station, parts, up-in, On-sheet}
 use Rattle.listing.specs.declared.answers.Call.{Call}
 use Rattle.listing.specs.declared.answers.Ending.{Ending}
-use Rattle.listing.proofs.Invariant.{Lawful}
+use Rattle.listing.specs.declared.answers.Ending.the-variants as ends
+use Rattle.listing.proofs.Invariant.{Lawful, Kept}
+use Rattle.listing.proofs.Lawfully.{ones-below, taken-each}
 use Rattle.listing.proofs.Unique.{Alike, One-history, one-history}
 
 -- sums only grow
@@ -122,3 +128,37 @@ module _ (w : Station) where
   -- while fewer than 1,024 states were handed out, next does not refuse
   pub not-full : (xs : List ℕ) (l l′ : Memory) → Few xs l → length xs < 1024 → Next w l full l′ → ⊥
   not-full xs l l′ few h next = omega (arith, few-would xs l (next .0 .0) few (next .0 .1), next .0 .2)
+
+  few-run : {target budget count : ℕ} {l l′ : Memory} {e : Ending} {ys : List ℕ} (xs : List ℕ) → Few xs l → Runs w target budget count l e ys l′ → Few (xs ++ ys) l′
+  few-run {l = l} xs few (ends-here p) = subst (λ zs. Few zs l) (sym (append-nil xs)) few
+  few-run xs few (goes-on {x = x} {l = l} {l₁ = l₁} {l₂ = l₂} {xs = ys} g n r) =
+      subst (λ zs. Few zs l₂) (append-assoc xs (x ∷ []) ys) (few-run (xs ++ x ∷ []) (few-next xs l x l₁ few (n .0)) r)
+
+  few-answer : (xs : List ℕ) (a : Next-answer) (l l′ : Memory) → Few xs l → Next w l a l′ → Few (xs ++ handed-by a) l′
+  few-answer xs (handed-out x v) l l′ few next = few-next xs l x l′ few (next .0)
+  few-answer xs finished l l′ few next = rw (append-nil xs, next .1) few
+  few-answer xs full l l′ few next = rw (append-nil xs, next .1) few
+
+  few-step : {c : Call} {l l′ : Memory} {ys : List ℕ} {g : Bool} (xs : List ℕ) → Few xs l → Step w c l ys g l′ → Few (xs ++ ys) l′
+  few-step {l = l} {l′ = l′} xs few (next-step a p) = few-answer xs a l l′ few p
+  few-step xs few (run-step e s r) = few-run xs few r
+  few-step {l = l} xs few (refused-step h) = subst (λ zs. Few zs l) (sym (append-nil xs)) few
+  few-step {l = l} xs few figures-step = subst (λ zs. Few zs l) (sym (append-nil xs)) few
+
+  pub few-led : {cs : List Call} {xs : List ℕ} {f : Bool} {l : Memory} → Led w cs xs f l → Few xs l
+  few-led none = record { first = λ e. refl; then-few = λ h. absurd (omega arith) }
+  few-led (more cs c xs ys f g led step) = few-step xs (few-led led) step
+
+  -- nor does a run end full before that
+  pub run-not-full : {target budget count : ℕ} {l l′ : Memory} {ys : List ℕ} (xs : List ℕ) → Few xs l → Runs w target budget count l ends.Full ys l′ → length (xs ++ ys) < 1024 → ⊥
+  run-not-full {l = l} xs few (ends-here p) h = not-full xs l l few (omega (arith, ap length (append-nil xs))) (p .1)
+  run-not-full xs few (goes-on {x = x} {l = l} {l₁ = l₁} {xs = ys} g n r) h =
+      run-not-full (xs ++ x ∷ []) (few-next xs l x l₁ few (n .0)) r (omega (arith, ap length (append-assoc xs (x ∷ []) ys)))
+
+-- once as many states were handed out as the sheet has, nothing waits
+pub all-out : (w : Station) (xs : List ℕ) (l : Memory) → Kept w xs l → length xs ≡ 2 ^ parts w → l .waiting ≡ []
+all-out w xs l k e = none-left (l .waiting) (k .waiting-on-sheet) (omega (arith, taken-each w xs (k .on-sheet), k .accounts (λ x. 1), ones-below (2 ^ parts w)))
+  where
+    none-left : (zs : List ℕ) → All (On-sheet w) zs → sum-of (tree-sum (parts w) (λ x. 1)) zs ≡ 0 → zs ≡ []
+    none-left [] on h = refl
+    none-left (z ∷ zs) on h = absurd (omega (arith, tree-step (parts w) z (λ x. 1) (on .0)))

@@ -37,10 +37,19 @@ ones-of : (xs : List ℕ) → sum-of (λ x. 1) xs ≡ length xs
 ones-of [] = refl
 ones-of (x ∷ xs) = omega (arith, ones-of xs)
 
-ones-below : (m : ℕ) → sum-below m (λ x. 1) ≡ m
+pub ones-below : (m : ℕ) → sum-below m (λ x. 1) ≡ m
 unfolding sum-below
 ones-below zero = refl
 ones-below (suc m) = omega (arith, ones-below m)
+
+-- each state handed out takes at least itself
+pub taken-each : (w : Station) (xs : List ℕ) → All (On-sheet w) xs → length xs ≤ sum-of (taken w (λ x. 1)) xs
+taken-each w xs on =
+    omega (arith, ones-of xs, sum-of-le (λ x. 1) (taken w (λ x. 1)) xs (λ x i. one x (all-in (On-sheet w) xs x on i) (up-in w x)))
+  where
+    one : (x : ℕ) → On-sheet w x → (b : Bool) → 1 ≤ cond b 1 (cone-sum (parts w) (λ y. 1) x)
+    one x x-on true = omega arith
+    one x x-on false = omega (arith, cone-step (parts w) x (λ y. 1) x-on)
 
 -- all that lasts from call to call
 pub record Lasting (w : Station) (xs : List ℕ) (f : Bool) (l : Memory) : Type 0 where
@@ -158,13 +167,7 @@ module _ (w : Station) (laws : Lawful w) where
 
     -- each state handed out takes at least itself
     count-bound : length xs ≤ 2 ^ parts w
-    count-bound =
-        let each = sum-of-le (λ x. 1) (taken w (λ x. 1)) xs (λ x i. one x (all-in (On-sheet w) xs x (a .kept .on-sheet) i) (up-in w x)) in
-        omega (arith, each, ones-of xs, a .kept .accounts (λ x. 1), ones-below (2 ^ parts w))
-      where
-        one : (x : ℕ) → On-sheet w x → (b : Bool) → 1 ≤ cond b 1 (cone-sum (parts w) (λ y. 1) x)
-        one x x-on true = omega arith
-        one x x-on false = omega (arith, cone-step (parts w) x (λ y. 1) x-on)
+    count-bound = omega (arith, taken-each w xs (a .kept .on-sheet), a .kept .accounts (λ x. 1), ones-below (2 ^ parts w))
 
     pub law-holds : Listing-law w xs f l
     law-holds = record {

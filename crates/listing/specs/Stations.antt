@@ -4,6 +4,8 @@ use mathlib.Core.List.{List}
 use mathlib.Core.Bool.{Bool, true, false}
 use Prim.Native.Nat.{ℕ, _^_, _<_}
 use lib.ListN.{length}
+use Rattle.sheet.specs.Parts.{figures-of}
+use Rattle.sheet.specs.declared.sealed.Sheet.{Sheet}
 use Rattle.states.specs.Masses.{mass}
 use Rattle.states.specs.Sets.{Within}
 use Rattle.states.specs.Steps.{share}
@@ -15,6 +17,10 @@ pub record Station : Type 0 where
   pub figures : List ℕ
   pub works : ℕ → Bool
   pub outranks : ℕ → ℕ → Bool
+
+-- the station of a sheet, a pile that works in these states, and a ranking with this order
+abbrev pub station : Sheet → (ℕ → Bool) → (ℕ → ℕ → Bool) → Station
+station s works outranks = record { figures = figures-of s; works = works; outranks = outranks }
 
 -- how many parts the sheet has
 abbrev pub parts : Station → ℕ
