@@ -3,3 +3,4 @@ pub mod Handing
 pub mod Law
 pub mod Memories
 pub mod Stations
+pub mod Waiters
