@@ -2,6 +2,7 @@ pub mod Accounts
 pub mod Best
 pub mod Bounds
 pub mod Entries
+pub mod Insertion
 pub mod Invariant
 pub mod Lawfully
 pub mod Sorting

@@ -36,7 +36,7 @@ module _ (R : ℕ → ℕ → Type 0) where
       other y (inr j) = all-in (R z) (zs ++ ys) y (p .0) (in-append-right zs ys y j)
 
   -- of a cut list, each of the front comes before each of the rest
-  across : (xs ys : List ℕ) (a b : ℕ) → Pairwise R (xs ++ ys) → In a xs → In b ys → R a b
+  pub across : (xs ys : List ℕ) (a b : ℕ) → Pairwise R (xs ++ ys) → In a xs → In b ys → R a b
   across [] ys a b p i j = absurd i
   across (x ∷ xs) ys a b p (inl e) j = subst (λ v. R v b) e (all-in (R x) (xs ++ ys) b (p .0) (in-append-right xs ys b j))
   across (x ∷ xs) ys a b p (inr i) j = across xs ys a b (p .1) i j

@@ -1,11 +1,14 @@
 -- What the waiting entries of a listing say. Assumes nothing.
 use mathlib.Core.Path.{_≡_}
 use mathlib.Core.Bool.{Bool, true, false, _&&_}
-use mathlib.Core.List.{List, [], _∷_, map}
+use mathlib.Core.List.{List, [], _∷_, _++_, map}
 use Prim.Native.Nat.{ℕ, suc, _^_, _≤_, _<_}
 use lib.Dec.{ltb}
 use lib.ListN.{length, getD}
 use Rattle.std.specs.Holes.{inserted}
+use Rattle.states.specs.Lists.{In, Pairwise, Same}
+use Rattle.states.specs.Masses.{mass}
+use Rattle.rankings.specs.Orders.{Strict-order}
 use Rattle.listing.specs.declared.waiting.Waiting.{Waiting}
 
 -- the states of entries
@@ -40,3 +43,16 @@ pub record Placed {K : Type 0} (n : ℕ) (keyed : ℕ → K) (before : ℕ → �
   pub within : place ≤ length ws
   pub items : ws′ ≡ inserted ws place e
   pub neighbours : Comparable n keyed ws → e .state .number < 2 ^ n → e .key ≡ keyed (e .state .number) → Between before (states-of ws) (e .state .number) place
+
+-- the entries have their own keys, and each is behind all later ones
+pub record Ready {K : Type 0} (n : ℕ) (keyed : ℕ → K) (before : ℕ → ℕ → Bool) (ws : List (Waiting K)) : Type 0 where
+  pub comparable : Comparable n keyed ws
+  pub sorted : Pairwise (λ x y. before y x ≡ true) (states-of ws)
+
+-- the states zs began to wait beside those of ws, which made ws′
+pub record Began {K : Type 0} (n : ℕ) (figures : List ℕ) (keyed : ℕ → K) (before : ℕ → ℕ → Bool) (zs : List ℕ) (ws ws′ : List (Waiting K)) : Type 0 where
+  pub states : Same (states-of ws′) (zs ++ states-of ws)
+  pub on-sheet : all-below (2 ^ n) zs ≡ true → all-below (2 ^ n) (states-of ws) ≡ true → all-below (2 ^ n) (states-of ws′) ≡ true
+  pub weighed : masses-of ws ≡ map (mass figures) (states-of ws) → masses-of ws′ ≡ map (mass figures) (states-of ws′)
+  -- they wait in order, where the order is one and none of them waited before
+  pub ready : Strict-order n before → all-below (2 ^ n) zs ≡ true → ((z : ℕ) → In z zs → In z (states-of ws) → ⊥) → Ready n keyed before ws → Ready n keyed before ws′

@@ -2,13 +2,16 @@ ghost use mathlib.Core.Path.{_≡_};
 ghost use Prim.Native.Nat.{_+_, _≤_, _<_, _^_};
 ghost use lib.ListN.{length};
 ghost use Rattle.std.specs.Of.Vec.{vec-len, vec-cap, vec-items};
-ghost use Rattle.sheet.specs.Parts.{count-of};
+ghost use Rattle.sheet.specs.Parts.{count-of, figures-of};
+ghost use Rattle.states.specs.Answers.{numbers};
 ghost use Rattle.rankings.specs.Orders.{ahead};
-ghost use Rattle.listing.specs.Waiters.{states-of, Comparable, Between, Placed};
+ghost use Rattle.listing.specs.Waiters.{states-of, Comparable, Between, Placed, Began};
 use crate::waiting::Waiting;
 use rankings::Rank;
 use rankings::Ranking;
 use sheet::Sheet;
+use states::State;
+use states::Weighed;
 
 // Whether the first entry is ahead of the second, by their keys.
 fn is_ahead_of<R: Ranking>(
@@ -63,4 +66,28 @@ fn put<R: Ranking>(
 {
     let place = place_for(ranking, sheet, waiting.as_slice(), newcomer);
     let _ = waiting.insert(place, newcomer);
+}
+
+// Makes a state wait, with its mass and its key worked out once. None makes nothing wait.
+pub(crate) fn begin<R: Ranking>(
+    ranking: &R,
+    sheet: &Sheet,
+    waiting: &mut Vec<Waiting<R::Key>>,
+    state: Option<State>,
+)
+    requires { ⌜ vec-len (now waiting) < vec-cap (now waiting) ⌝ }
+    ensures began { λ _. ⌜ Began (count-of (now (sheet .entry))) (figures-of (now (sheet .entry))) (R·Ranking .keyed (now (ranking .entry)) (now (sheet .entry))) (ahead (R·Ranking .outranks (now (ranking .entry)) (now (sheet .entry)))) (numbers state) (vec-items (now (waiting .entry))) (vec-items (now (waiting .exit))) ⌝ }
+    ensures len { λ _. ⌜ vec-len (now (waiting .exit)) ≡ length (numbers state) + vec-len (now (waiting .entry)) ⌝ }
+    ensures capacity { λ _. ⌜ vec-cap (now (waiting .entry)) ≤ vec-cap (now (waiting .exit)) ⌝ }
+{
+    let Some(state) = state else {
+        return;
+    };
+    let weighed = Weighed::new(sheet, state);
+    let newcomer = Waiting {
+        state,
+        mass: weighed.mass(),
+        key: ranking.key(weighed),
+    };
+    put(ranking, sheet, waiting, newcomer);
 }
