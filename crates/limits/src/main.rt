@@ -1,5 +1,7 @@
 // Tries every limit of sheets, path lists and networks from both sides, and prints what was accepted and what was refused with
 // which number.
+#![tactic(auto)]
+
 mod cases;
 mod outcome;
 

@@ -1,4 +1,6 @@
 // The listing of a station's states, foremost first: what its calls answer.
+#![tactic(auto)]
+
 mod answers;
 mod listing;
 mod placing;

@@ -1,5 +1,7 @@
 // Listings on small stations, compared with the sum over all states; and the calls of a listing at their limits. A structure
 // and a ranking of this program's own go through them beside those of the libraries.
+#![tactic(auto)]
+
 mod by_number;
 mod calls_at_limits;
 mod many;

@@ -1,4 +1,6 @@
 // The network structure: links between masts, which join two terminals or do not.
+#![tactic(auto)]
+
 mod link;
 mod mast;
 mod network;

@@ -1,4 +1,6 @@
 // Rankings of the states of a sheet: which of two states comes first.
+#![tactic(auto)]
+
 mod ahead;
 mod by_points;
 mod exact;

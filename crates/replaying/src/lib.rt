@@ -1,4 +1,6 @@
 // Lists of calls carried out on a listing of their own.
+#![tactic(auto)]
+
 mod carrying;
 mod replayed;
 

@@ -1,4 +1,6 @@
 // Grades, part numbers, and the sheet of a station's parts, filled as a draft and then sealed.
+#![tactic(auto)]
+
 mod draft;
 mod grade;
 mod part;

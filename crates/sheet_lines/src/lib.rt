@@ -1,4 +1,6 @@
 // The lines of a sheet's text: a reader that gives one line's token at a time, and the numbers in fields.
+#![tactic(auto)]
+
 mod cut;
 mod fault;
 mod field_reader;

@@ -1,4 +1,6 @@
 // Reading a sheet's text: what it holds, or exactly what is wrong with it and where.
+#![tactic(auto)]
+
 mod book;
 mod numbers;
 mod path;

@@ -1,5 +1,7 @@
 // The wiring of a station: what says in which states it works. Structures stand behind one trait, and layers are structures
 // over any structure.
+#![tactic(auto)]
+
 mod bypass;
 mod feed;
 mod given;

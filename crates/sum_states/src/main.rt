@@ -1,4 +1,6 @@
 // Sums two stations over all their states and prints what it did: a small one state by state, and a cabinet of nine parts.
+#![tactic(auto)]
+
 mod show;
 mod stations;
 

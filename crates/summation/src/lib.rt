@@ -1,4 +1,6 @@
 // The reliability of a small station, summed over all states of its sheet.
+#![tactic(auto)]
+
 mod summing;
 mod sums;
 

@@ -1,4 +1,6 @@
 // Cases worked by hand, shown of the definitions themselves.
+#![tactic(auto)]
+
 ghost use Rattle.worked_cases.specs.Worked.{WorkedCases};
 
 // Answers nothing: what it says is its promise, that the definitions give every worked case.
