@@ -1,5 +1,5 @@
 -- The grades of a sheet's parts never fall, their failure figures never rise, and none is above one half. Assumes nothing.
-use Rattle.std.proofs.Common.{◌≡◌, ℕ, zero, suc, ◌+◌, ◌-◌, ◌<◌, ◌≤◌, true, leb, List, [], ◌∷◌, map, length, get_or, sym, ap, not-suc-le-zero, arith, leb-true}
+use Rattle.std.proofs.Common.{◌≡◌, ℕ, zero, suc, ◌+◌, ◌-◌, ◌<◌, ◌≤◌, true, leb, List, [], ◌∷◌, map, length, get_or, not-suc-le-zero, arith, leb-true}
 use Rattle.std.proofs.lemmas.Bool.{and_parts}
 use Rattle.sheet.specs.Grades.{figure}
 use Rattle.sheet.specs.Orders.{never_falls_from}

@@ -1,5 +1,5 @@
 -- Numbers that never fall from one to the next. Assumes nothing.
-use Rattle.std.specs.Prelude.{ℕ, Bool, true, false, ◌&&◌, List, [], ◌∷◌, nat_le}
+use Rattle.std.specs.Prelude.{ℕ, Bool, true, ◌&&◌, List, [], ◌∷◌, nat_le}
 
 -- from low on, no number is below the one before it
 abbrev pub never_falls_from : ℕ → List ℕ → Bool

@@ -1,12 +1,12 @@
 -- Numbers by their binary places. Assumes nothing.
-use Rattle.std.proofs.Common.{◌≡◌, ℕ, zero, suc, pred, ◌+◌, ◌-◌, ◌*◌, ◌/◌, ◌%◌, ◌^◌, ◌<◌, ◌≤◌, min, max, Bool, true, false, cond, not, ◌&&◌, ◌||◌, eqb, ◌≢◌, sym, refl, ap, ◌∙◌, subst, ⊎_elim, lt_of_lt_of_le, div-one, arith, lit<, pow_pos, pow_mono, pow-add, shr-shr, eq-eqb, ne_eqb}
+use Rattle.std.proofs.Common.{◌≡◌, ℕ, zero, suc, ◌+◌, ◌-◌, ◌*◌, ◌/◌, ◌%◌, ◌^◌, ◌<◌, ◌≤◌, min, max, Bool, true, false, cond, ◌&&◌, ◌||◌, eqb, sym, refl, ap, ◌∙◌, ⊎_elim, lt_of_lt_of_le, div-one, arith, lit<, pow_pos, pow_mono, pow-add, shr-shr, eq-eqb, ne_eqb}
 use mathlib.Core.Bool.{xor}
 use native.Mathlib.Nat.{zero-div, div_self, div-eq_of_lt, div-eq_of_lt-le, two-pow-succ}
 use borrow.Author.Tests.{clash}
 use lib.Arith.{half_le}
 use lib.Bits.{bit_and, bit_or, bit_xor, and_step, or_step, xor_step, and_shr, or_shr, xor_shr, differ}
 use lib.Pow.{shl-shr, pow-lt, field, mod-mod-pow, mod-pow-add}
-use Rattle.std.proofs.lemmas.Bool.{cases_order, cases_Bool}
+use Rattle.std.proofs.lemmas.Bool.{cases_order}
 use Rattle.states.specs.Sets.{bit}
 
 -- what holds of both binary digits holds of a remainder by two

@@ -1,6 +1,6 @@
 -- Masses: what is left after some parts depends on these parts alone, and the masses of all states that agree up to some part
 -- sum to what is left there. Assumes nothing.
-use Rattle.std.proofs.Common.{◌≡◌, ℕ, zero, suc, ◌+◌, ◌-◌, ◌*◌, ◌/◌, ◌%◌, ◌^◌, ◌<◌, ◌≤◌, Bool, true, false, cond, ◌||◌, eqb, List, length, get_or, sym, refl, ap, ◌∙◌, ap₂, mod-lt, mod-eq_of_lt, mul-le-mul_left, div-add-mod', arith, pow_pos, pow-add, eq-eqb, ne_eqb}
+use Rattle.std.proofs.Common.{◌≡◌, ℕ, zero, suc, ◌+◌, ◌*◌, ◌/◌, ◌%◌, ◌^◌, ◌<◌, ◌≤◌, Bool, true, false, cond, ◌||◌, eqb, List, length, get_or, sym, refl, ap, ◌∙◌, ap₂, mod-lt, mod-eq_of_lt, mul-le-mul_left, div-add-mod', arith, pow_pos, pow-add, eq-eqb, ne_eqb}
 use mathlib.Core.Bool.{or-false}
 use native.Mathlib.Nat.{mod-mod, two-pow-succ, mul-add-mod_self_right, mod-one}
 use Rattle.std.proofs.lemmas.Bool.{or_right}

@@ -1,5 +1,5 @@
 -- The number of a sheet's parts. Assumes nothing.
-use Rattle.std.proofs.Common.{◌≡◌, ◌≤◌, length, sym, arith}
+use Rattle.std.proofs.Common.{◌≡◌, ◌≤◌, length, arith}
 use Rattle.std.proofs.lemmas.List.{length-map}
 use Rattle.sheet.specs.Parts.{figures_of, figure_of, parts_of, count_of}
 use Rattle.sheet.specs.declared.sealed.Sheet.{Sheet}

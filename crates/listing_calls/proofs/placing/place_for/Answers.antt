@@ -6,8 +6,8 @@ use Rattle.listing_calls.specs.Waiters.{states_of}
 use Rattle.listing_calls.proofs.Entries.{entry_at}
 use Rattle.listing_calls.proofs.placing.place_for.Goals as goal
 
-pub loop-low-preserved-then-is-ahead-of : goal.loop-low-preserved-then-is-ahead-of
-loop-low-preserved-then-is-ahead-of g c =
+pub loop-low-preserved-then-is_ahead_of : goal.loop-low-preserved-then-is_ahead_of
+loop-low-preserved-then-is_ahead_of g c =
     let ws = c.args.waiting.now in
     let i : ℕ = c.loop-low.low + (c.loop-low.high - c.loop-low.low) / 2 in
     let o = ahead (g.R.Ranking.outranks c.args.ranking.now c.args.sheet.now) c.args.newcomer.state.number in (
@@ -16,7 +16,7 @@ loop-low-preserved-then-is-ahead-of g c =
       λ comparable on key.
           let within : i < length ws = omega arith in
           let found = entry_at (count_of c.args.sheet.now) _ ws i c.index-waiting-middle.result comparable within c.index-waiting-middle.is in
-          let said = c.if-is-ahead-of.ensures on found.on_sheet key found.key in
+          let said = c.if-is_ahead_of.ensures on found.on_sheet key found.key in
           ((λ j e. let same : j ≡ i = omega arith in ap (λ k. o (get_or (states_of ws) k 0)) same ∙ ap o found.state ∙ sym said), (c.loop-low.invariant.2 comparable on key).1),
     )
 
@@ -30,7 +30,7 @@ loop-low-preserved g c =
       λ comparable on key.
           let within : i < length ws = omega arith in
           let found = entry_at (count_of c.args.sheet.now) _ ws i c.index-waiting-middle.result comparable within c.index-waiting-middle.is in
-          let said = c.if-is-ahead-of.ensures on found.on_sheet key found.key in
+          let said = c.if-is_ahead_of.ensures on found.on_sheet key found.key in
           ((c.loop-low.invariant.2 comparable on key).0, λ h. ap o found.state ∙ sym said),
     )
 

@@ -10,12 +10,12 @@ use Rattle.replaying.proofs.carrying.replay.Goals as goal
 pub loop-call-init : goal.loop-call-init
 loop-call-init g c =
     let room = c.in-Ok.ensures in
-    let l = c.in-ok-listing.listing in (
+    let l = c.in_ok-listing.listing in (
       room.len,
       room.capacity,
       same_itself l,
       subst (λ rs. Made g.S.Structure.works g.R.Ranking.outranks g.R.Ranking.keyed [] rs l) (sym room.items)
-          (none_made g.S.Structure.works g.R.Ranking.outranks g.R.Ranking.keyed l c.in-ok-listing.ensures.left),
+          (none_made g.S.Structure.works g.R.Ranking.outranks g.R.Ranking.keyed l c.in_ok-listing.ensures.left),
     )
 
 pub loop-call-preserved : goal.loop-call-preserved
@@ -30,16 +30,16 @@ loop-call-preserved g c =
     let works = g.S.Structure.works in
     let outranks = g.R.Ranking.outranks in
     let keyed = g.R.Ranking.keyed in (
-      omega (arith, c.push-reserved.ensures.len, c.loop-call.invariant.0),
-      omega (arith, c.push-reserved.ensures.capacity, c.loop-call.invariant.1),
-      same_through c.in-ok-listing.listing l l' c.loop-call.invariant.2 c.make-reply.ensures.station,
-      subst₂ (λ ds ts. Made works outranks keyed ds ts l') (sym (take_more cs i call.Next here)) (sym c.push-reserved.ensures.items)
+      omega (arith, c.push_reserved.ensures.len, c.loop-call.invariant.0),
+      omega (arith, c.push_reserved.ensures.capacity, c.loop-call.invariant.1),
+      same_through c.in_ok-listing.listing l l' c.loop-call.invariant.2 c.make-reply.ensures.station,
+      subst₂ (λ ds ts. Made works outranks keyed ds ts l') (sym (take_more cs i call.Next here)) (sym c.push_reserved.ensures.items)
           (one_made works outranks keyed (take i cs) rs l l' c.loop-call.invariant.3 (get_or cs i call.Next) r c.make-reply.ensures.called c.figures-figures.ensures.value),
     )
 
 pub returns : goal.returns
 returns g c =
-    let l = c.in-ok-listing.listing in
+    let l = c.in_ok-listing.listing in
     let l' = c.loop-call.listing in
     let s = c.args.sheet.now in
     let pile = c.args.pile in
@@ -47,7 +47,7 @@ returns g c =
     let works = g.S.Structure.works in
     let outranks = g.R.Ranking.outranks in
     let laws = lawful s (works pile) (outranks ranking s) (g.met.S.Structure.contained pile) (g.met.R.Ranking.one_way ranking s) (g.met.R.Ranking.through ranking s) (g.met.R.Ranking.add_follows ranking s) (g.met.R.Ranking.move_follows ranking s) in
-    let opened = c.in-ok-listing.ensures in
+    let opened = c.in_ok-listing.ensures in
     let same = c.loop-call.invariant.2 in
     let whole : take c.loop-call.call-index c.args.calls.now ≡ c.args.calls.now = take_all c.loop-call.call-index c.args.calls.now (omega arith) in
     let made = subst (λ cs. Made works outranks g.R.Ranking.keyed cs (vec_items c.loop-call.replies) l') whole c.loop-call.invariant.3 in

@@ -2,12 +2,12 @@ use Rattle.std.proofs.Common.{◌≡◌, ◌∷◌, ◌++◌, ap, ◌∙◌, ari
 use Rattle.sheet_lines.proofs.Cutting.{marks_free, free_marks, cut_marks}
 use Rattle.sheet_lines.proofs.tokens.three_fields.Goals as goal
 
-pub returns-in-default : goal.returns-in-default
-returns-in-default c = λ two. omega (arith, two, marks_free 44 c.args.fields.now c.in-default.ensures)
+pub returns-in_default : goal.returns-in_default
+returns-in_default c = λ two. omega (arith, two, marks_free 44 c.args.fields.now c.in_default.ensures)
 
-pub returns-in-default-cut : goal.returns-in-default-cut
-returns-in-default-cut c =
-    λ two. omega (arith, two, cut_marks 44 c.args.fields.now c.in-Some.first.now c.in-Some.others.now c.in-Some.ensures, marks_free 44 c.in-Some.others.now c.in-default-cut.ensures)
+pub returns-in_default-cut : goal.returns-in_default-cut
+returns-in_default-cut c =
+    λ two. omega (arith, two, cut_marks 44 c.args.fields.now c.in-Some.first.now c.in-Some.others.now c.in-Some.ensures, marks_free 44 c.in-Some.others.now c.in_default-cut.ensures)
 
 pub returns-then-commas-gt0 : goal.returns-then-commas-gt0
 returns-then-commas-gt0 c =

@@ -7,11 +7,11 @@ use Rattle.sheet_reading.proofs.reading.read_lines.Goals as goal
 pub loop-book-init : goal.loop-book-init
 loop-book-init c = ?
 
-pub returns-in-err-line : goal.returns-in-err-line
-returns-in-err-line c = ?
+pub returns-in_err-line : goal.returns-in_err-line
+returns-in_err-line c = ?
 
-pub returns-in-err-take-line : goal.returns-in-err-take-line
-returns-in-err-take-line c = ?
+pub returns-in_err-take_line : goal.returns-in_err-take_line
+returns-in_err-take_line c = ?
 
 pub loop-book-smaller : goal.loop-book-smaller
 loop-book-smaller c = ?
@@ -19,11 +19,11 @@ loop-book-smaller c = ?
 pub loop-book-preserved : goal.loop-book-preserved
 loop-book-preserved c = ?
 
-pub overflow-add-result : goal.overflow-add-result
-overflow-add-result c = ?
+pub overflow_add-result : goal.overflow_add-result
+overflow_add-result c = ?
 
-pub returns-then-not-is-done : goal.returns-then-not-is-done
-returns-then-not-is-done c = ?
+pub returns-then-not-is_done : goal.returns-then-not-is_done
+returns-then-not-is_done c = ?
 
 pub returns : goal.returns
 returns c = ?

@@ -27,8 +27,8 @@ loop-number-preserved g c =
     let few : length (figures_of s) ≤ 40 = omega (arith, count_is s) in
     let small : i < 2 ^ 40 = lt_of_lt_of_le within (pow_mono few) in
     let number = c.new-state.ensures ∙ mod-eq_of_lt small in (
-      one_working works (figures_of s) i x c.mass.result _ _ c.works-in.result within number c.mass.ensures.value c.works-in.ensures c.loop-number.invariant.0 c.with-sums.ensures.working,
-      one_failing works (figures_of s) i x c.mass.result _ _ c.works-in.result within number c.mass.ensures.value c.works-in.ensures c.loop-number.invariant.1 c.with-sums.ensures.failing,
+      one_working works (figures_of s) i x c.mass.result _ _ c.works_in.result within number c.mass.ensures.value c.works_in.ensures c.loop-number.invariant.0 c.with-sums.ensures.working,
+      one_failing works (figures_of s) i x c.mass.result _ _ c.works_in.result within number c.mass.ensures.value c.works_in.ensures c.loop-number.invariant.1 c.with-sums.ensures.failing,
     )
 
 pub returns : goal.returns

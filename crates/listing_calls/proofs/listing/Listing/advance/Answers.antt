@@ -26,33 +26,33 @@ the_turn g l e ws' b added moved found answer adds moves renewed =
     let laws = lawful s works outranks (g.met.S.Structure.contained l.pile) (g.met.R.Ranking.one_way l.ranking s) (g.met.R.Ranking.through l.ranking s) (g.met.R.Ranking.add_follows l.ranking s) (g.met.R.Ranking.move_follows l.ranking s) in
     turn s works outranks (g.R.Ranking.keyed l.ranking s) laws e (vec_items l.waiting) ws' b added moved found.0 found.1 l.on_sheet answer adds moves renewed
 
-pub up-after-self-requires : goal.up-after-self-requires
-up-after-self-requires g c =
+pub up_after-self-requires : goal.up_after-self-requires
+up_after-self-requires g c =
     let l = c.args.self.now in
-    let found = subst (λ ws. (0 < length ws) × (c.in-Some.first ≡ get_or ws (length ws - 1) c.in-Some.first)) c.as-slice.ensures.value c.in-Some.ensures in
+    let found = subst (λ ws. (0 < length ws) × (c.in-Some.first ≡ get_or ws (length ws - 1) c.in-Some.first)) c.as_slice.ensures.value c.in-Some.ensures in
     (omega (arith, l.sums), mass_fits l.sheet.now (vec_items l.waiting) c.in-Some.first found.0 found.1 l.weighed)
 
-pub invariant-of-self : goal.invariant-of-self
-invariant-of-self g c =
+pub invariant_of-self : goal.invariant_of-self
+invariant_of-self g c =
     let l = c.args.self.now in
     let s = l.sheet.now in
     let e = c.in-Some.first in
-    let found = subst (λ ws. (0 < length ws) × (e ≡ get_or ws (length ws - 1) e)) c.as-slice.ensures.value c.in-Some.ensures in
-    let next = c.next-states-added in
-    let t = the_turn g l e (vec_items c.renew.new.waiting) c.works-in-works.result (numbers next.result.0) (numbers next.result.1) found c.works-in-works.ensures next.ensures.added next.ensures.moved c.renew.ensures.renewed in
-    let up' = c.up-after-self.result in
-    let down' = c.down-after-self.result in
+    let found = subst (λ ws. (0 < length ws) × (e ≡ get_or ws (length ws - 1) e)) c.as_slice.ensures.value c.in-Some.ensures in
+    let next = c.next_states-added in
+    let t = the_turn g l e (vec_items c.renew.new.waiting) c.works_in-works.result (numbers next.result.0) (numbers next.result.1) found c.works_in-works.ensures next.ensures.added next.ensures.moved c.renew.ensures.renewed in
+    let up' = c.up_after-self.result in
+    let down' = c.down_after-self.result in
     let few = ltb-false 1025 _ (sym c.if-crowded.ensures) in (
       omega (arith, c.renew.ensures.capacity, l.room),
       (
         omega (arith, c.renew.ensures.len, few, c.len.ensures),
         (
-          on_after s t l.weighed l.up l.down up' down' c.up-after-self.ensures c.down-after-self.ensures,
+          on_after s t l.weighed l.up l.down up' down' c.up_after-self.ensures c.down_after-self.ensures,
           (
-            weighed_after s t l.weighed l.up l.down up' down' c.up-after-self.ensures c.down-after-self.ensures,
+            weighed_after s t l.weighed l.up l.down up' down' c.up_after-self.ensures c.down_after-self.ensures,
             (
-              sums_after s t l.weighed l.up l.down up' down' c.up-after-self.ensures c.down-after-self.ensures l.sums,
-              (count_after s t l.weighed l.up l.down up' down' c.up-after-self.ensures c.down-after-self.ensures l.handed l.count, tt),
+              sums_after s t l.weighed l.up l.down up' down' c.up_after-self.ensures c.down_after-self.ensures l.sums,
+              (count_after s t l.weighed l.up l.down up' down' c.up_after-self.ensures c.down_after-self.ensures l.handed l.count, tt),
             ),
           ),
         ),
@@ -64,22 +64,22 @@ returns g c =
     let l = c.args.self.now in
     let s = l.sheet.now in
     let e = c.in-Some.first in
-    let found = subst (λ ws. (0 < length ws) × (e ≡ get_or ws (length ws - 1) e)) c.as-slice.ensures.value c.in-Some.ensures in
-    let next = c.next-states-added in
-    let t = the_turn g l e (vec_items c.renew.new.waiting) c.works-in-works.result (numbers next.result.0) (numbers next.result.1) found c.works-in-works.ensures next.ensures.added next.ensures.moved c.renew.ensures.renewed in
+    let found = subst (λ ws. (0 < length ws) × (e ≡ get_or ws (length ws - 1) e)) c.as_slice.ensures.value c.in-Some.ensures in
+    let next = c.next_states-added in
+    let t = the_turn g l e (vec_items c.renew.new.waiting) c.works_in-works.result (numbers next.result.0) (numbers next.result.1) found c.works_in-works.ensures next.ensures.added next.ensures.moved c.renew.ensures.renewed in
     let few = ltb-false 1025 _ (sym c.if-crowded.ensures) in
     record {
       station = record { sheet = refl; pile = refl; ranking = refl };
       unchanged = tt;
       advanced = λ ms left.
-          handed_next s t l.weighed l.up l.down c.up-after-self.result c.down-after-self.result c.up-after-self.ensures c.down-after-self.ensures l.handed ms left.led left.ready
+          handed_next s t l.weighed l.up l.down c.up_after-self.result c.down_after-self.result c.up_after-self.ensures c.down_after-self.ensures l.handed ms left.led left.ready
           (omega (arith, c.renew.ensures.len, few, c.len.ensures, c.renew.new.waiting.ok.0)) c.verdict.result c.verdict.ensures;
     }
 
-pub returns-in-default : goal.returns-in-default
-returns-in-default g c =
+pub returns-in_default : goal.returns-in_default
+returns-in_default g c =
     let l = c.args.self.now in
-    let none = nil_from_length (vec_items l.waiting) (ap length (sym c.as-slice.ensures.value) ∙ c.in-default.ensures) in
+    let none = nil_from_length (vec_items l.waiting) (ap length (sym c.as_slice.ensures.value) ∙ c.in_default.ensures) in
     record {
       station = record { sheet = refl; pile = refl; ranking = refl };
       unchanged = tt;
@@ -91,14 +91,14 @@ returns-then-crowded g c =
     let l = c.args.self.now in
     let s = l.sheet.now in
     let ws = vec_items l.waiting in
-    let found = subst (λ vs. (0 < length vs) × (c.in-Some.first ≡ get_or vs (length vs - 1) c.in-Some.first)) c.as-slice.ensures.value c.in-Some.ensures in
+    let found = subst (λ vs. (0 < length vs) × (c.in-Some.first ≡ get_or vs (length vs - 1) c.in-Some.first)) c.as_slice.ensures.value c.in-Some.ensures in
     let many = ltb-true 1025 _ (sym c.if-crowded.ensures) in
     record {
       station = record { sheet = refl; pile = refl; ranking = refl };
       unchanged = refl;
       advanced = λ ms left. (
-        full_next s (g.S.Structure.works l.pile) (g.R.Ranking.outranks l.ranking s) (g.R.Ranking.keyed l.ranking s) c.in-Some.first ws c.works-in-works.result (numbers c.next-states-added.result.0) (numbers c.next-states-added.result.1) _
-            found.0 found.1 l.on_sheet c.works-in-works.ensures c.next-states-added.ensures.added c.next-states-added.ensures.moved refl left.ready (omega (arith, many, c.len.ensures, l.waiting.ok.0)),
+        full_next s (g.S.Structure.works l.pile) (g.R.Ranking.outranks l.ranking s) (g.R.Ranking.keyed l.ranking s) c.in-Some.first ws c.works_in-works.result (numbers c.next_states-added.result.0) (numbers c.next_states-added.result.1) _
+            found.0 found.1 l.on_sheet c.works_in-works.ensures c.next_states-added.ensures.added c.next_states-added.ensures.moved refl left.ready (omega (arith, many, c.len.ensures, l.waiting.ok.0)),
         left.ready,
       );
     }

@@ -10,8 +10,8 @@ use Rattle.listing_calls.specs.Waiters.{states_of, Began, Ready}
 use Rattle.listing_calls.proofs.Opening.{alone, opened_on_sheet, opened_weighed, opened_sums, opened_count, opened_ready}
 use Rattle.listing_calls.proofs.listing.Listing.begun.Goals as goal
 
-pub invariant-of-result : goal.invariant-of-result
-invariant-of-result g c =
+pub invariant_of-result : goal.invariant_of-result
+invariant_of-result g c =
     let s = c.args.sheet.now in
     let keyed = g.R.Ranking.keyed c.args.ranking s in
     let before = ahead (g.R.Ranking.outranks c.args.ranking s) in

@@ -11,8 +11,8 @@ pub returns : goal.returns
 returns g c =
     let l = c.args.self.now in
     let w = station_of g.S.Structure.works g.R.Ranking.outranks l in
-    subst (λ r. MatchOption r (Goes_on c.args.target c.args.budget c.args.count (memory_of l)) (Ends w c.args.target c.args.budget c.args.count (memory_of l))) (sym c.first-ending.ensures)
-    (ended_so w c.args.target c.args.budget c.args.count (memory_of l) c.has-reached.result c.is-empty.result _ c.has-reached.ensures
-    (λ t. ap states_of (nil_from_length (vec_items l.waiting) (omega (arith, l.waiting.ok.0, eqb-true _ 0 (sym c.is-empty.ensures ∙ t)))))
-    (λ f none. omega (arith, ap length none, length-map (vec_items l.waiting) (λ v. v.state.number), l.waiting.ok.0, eqb-false _ 0 (sym c.is-empty.ensures ∙ f)))
+    subst (λ r. MatchOption r (Goes_on c.args.target c.args.budget c.args.count (memory_of l)) (Ends w c.args.target c.args.budget c.args.count (memory_of l))) (sym c.first_ending.ensures)
+    (ended_so w c.args.target c.args.budget c.args.count (memory_of l) c.has_reached.result c.is_empty.result _ c.has_reached.ensures
+    (λ t. ap states_of (nil_from_length (vec_items l.waiting) (omega (arith, l.waiting.ok.0, eqb-true _ 0 (sym c.is_empty.ensures ∙ t)))))
+    (λ f none. omega (arith, ap length none, length-map (vec_items l.waiting) (λ v. v.state.number), l.waiting.ok.0, eqb-false _ 0 (sym c.is_empty.ensures ∙ f)))
     refl c.requires.count)

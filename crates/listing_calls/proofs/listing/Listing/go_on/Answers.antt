@@ -26,7 +26,7 @@ loop-ending-preserved g c =
     let l = c.args.self.now in
     let l₁ = c.loop-ending.self in
     let l₂ = c.advance.new.self in
-    let goes = c.in-default.ensures in
+    let goes = c.in_default.ensures in
     let next = c.in-Ok.ensures in (
       omega (arith, goes.not_spent),
       same_through l l₁ l₂ c.loop-ending.invariant.1 next.station,
@@ -46,6 +46,6 @@ returns-in-Err g c =
       ran = λ ms left.
           let so = c.loop-ending.invariant.2 ms left in
           let full = next.advanced so.moments so.left in
-          let done = ends_at g.S.Structure.works g.R.Ranking.outranks g.R.Ranking.keyed c.args.target c.args.budget l c.loop-ending.count l₁ c.loop-ending.invariant.1 so ends.Full (c.in-default.ensures, (full.0.0, refl)) (memory_of l₂) full.0.1 in
+          let done = ends_at g.S.Structure.works g.R.Ranking.outranks g.R.Ranking.keyed c.args.target c.args.budget l c.loop-ending.count l₁ c.loop-ending.invariant.1 so ends.Full (c.in_default.ensures, (full.0.0, refl)) (memory_of l₂) full.0.1 in
           answered c.ran-in-Err.ensures done.0 done.1 done.2 full.1;
     }

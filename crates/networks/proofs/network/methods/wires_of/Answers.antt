@@ -22,7 +22,7 @@ wire-requires c =
       one = ltb-false 15 l.one ends.0;
       other = ltb-false 15 l.other ends.1;
       from_one = ltb-false l.part 1 parts.0;
-      to-forty = ltb-false 40 l.part parts.1;
+      to_forty = ltb-false 40 l.part parts.1;
     }
 
 pub loop-link-preserved : goal.loop-link-preserved
@@ -31,7 +31,7 @@ loop-link-preserved c =
     let ls = c.args.links.now in
     let i = c.loop-link.link-index in
     let inside = c.loop-link-test.true in (
-      one_wire ls i nothing (vec_items c.push.new.self) (vec_items c.loop-link.wires) c.wire.result c.in-ok-push.ensures.items c.loop-link.invariant.0 inside c.wire.ensures,
+      one_wire ls i nothing (vec_items c.push.new.self) (vec_items c.loop-link.wires) c.wire.result c.in_ok-push.ensures.items c.loop-link.invariant.0 inside c.wire.ensures,
       (none_is end_too_high ls i nothing inside c.loop-link.invariant.1).1,
       (none_is part_unknown ls i nothing inside c.loop-link.invariant.2).1,
     )

@@ -7,9 +7,9 @@ use Rattle.networks.proofs.network.reach.are_joined.Goals as goal
 pub returns : goal.returns
 unfolding network_works
 returns c =
-    let value = c.is-in.ensures ∙ ap (bit c.args.to.number) c.all-reached.ensures in
+    let value = c.is_in.ensures ∙ ap (bit c.args.to.number) c.all_reached.ensures in
     record {
       value = value;
       walk = λ t. works_walk _ _ _ _ (sym value ∙ t);
-      all-walks = λ w. value ∙ walk_works _ _ _ _ (known_wires c.args.wires.now) c.args.from.known w;
+      all_walks = λ w. value ∙ walk_works _ _ _ _ (known_wires c.args.wires.now) c.args.from.known w;
     }

@@ -6,8 +6,8 @@ use Rattle.sheet_lines.proofs.field_reader.FieldReader.next_field.Goals as goal
 pub returns-then-self : goal.returns-then-self
 returns-then-self c = (drop_all c.args.self.now.place (44 ∷ c.args.self.now.fields.now) (omega arith), refl)
 
-pub invariant-of-self : goal.invariant-of-self
-invariant-of-self c =
+pub invariant_of-self : goal.invariant_of-self
+invariant_of-self c =
     let l = c.args.self.now in
     let w = c.width-width in
     (next_within l.fields.now l.place w.result c.if-self.false l.after_comma w.ensures, (next_comma l.fields.now l.place w.result c.if-self.false l.after_comma w.ensures, tt))

@@ -5,8 +5,8 @@ use Rattle.sheet_reading.specs.Books.{content_of}
 use Rattle.sheet_reading.proofs.BookSteps.{to_parts, kept_by_draft, same_grade, part_rules, same_content, KeptByDraft}
 use Rattle.sheet_reading.proofs.book.Book.take_part.Goals as goal
 
-pub invariant-of-self : goal.invariant-of-self
-invariant-of-self c =
+pub invariant_of-self : goal.invariant_of-self
+invariant_of-self c =
     let b = c.args.self.now in
     let added = c.in-Ok.ensures in
     (omega (arith, b.counted, ap length added.2.3, length_push (drafted b.draft) added.2.0), tt)

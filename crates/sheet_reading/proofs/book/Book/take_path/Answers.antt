@@ -21,13 +21,13 @@ returns-then-len-most c =
     let full = le-ltb (length (vec_items b.paths)) c.args.most (omega (arith, c.if-len-most.true, c.len.ensures, b.paths.ok.0)) in
     (ap told_by c.fault-then-len-most.ensures ∙ sym (path_rules c.args.most (content_of b) ns c.in-Some.stage (sym c.in-Some.ensures) [] false off full), ap (λ f. f.line) c.fault-then-len-most.ensures)
 
-pub returns-in-default-push : goal.returns-in-default-push
-returns-in-default-push c =
+pub returns-in_default-push : goal.returns-in_default-push
+returns-in_default-push c =
     let b = c.args.self.now in
     let ns = c.args.numbers.now in
     let off = ap (λ n. first_off n 0 2 ns) (sym b.counted) ∙ c.in-Ok.ensures.0 in
     let room = lt-ltb (length (vec_items b.paths)) c.args.most (omega (arith, c.if-len-most.false, c.len.ensures, b.paths.ok.0)) in
-    (ap told_by c.fault-in-default-push.ensures ∙ sym (path_rules c.args.most (content_of b) ns c.in-Some.stage (sym c.in-Some.ensures) [] true off room), ap (λ f. f.line) c.fault-in-default-push.ensures)
+    (ap told_by c.fault-in_default-push.ensures ∙ sym (path_rules c.args.most (content_of b) ns c.in-Some.stage (sym c.in-Some.ensures) [] true off room), ap (λ f. f.line) c.fault-in_default-push.ensures)
 
 pub returns : goal.returns
 returns c =

@@ -1,4 +1,4 @@
-use Rattle.std.proofs.Common.{◌≡◌, ◌-◌, sym, ap, ◌∙◌, arith}
+use Rattle.std.proofs.Common.{◌-◌, sym, ap, ◌∙◌, arith}
 use lib.Count.{count_leading_zeros}
 use Rattle.sheet.specs.Parts.{count_of}
 use Rattle.states.specs.Steps.{top}

@@ -1,4 +1,4 @@
-use Rattle.std.proofs.Common.{◌≡◌, ◌<◌, ◌≤◌, length, get_or, sym, refl, ap, ◌∙◌, arith, lit≤, rules}
+use Rattle.std.proofs.Common.{◌≡◌, ◌<◌, length, get_or, sym, refl, ap, ◌∙◌, arith, lit≤}
 use Rattle.std.proofs.lemmas.List.{get_or-map}
 use Rattle.sheet.specs.Parts.{figures_of, figure_of, parts_of}
 use Rattle.states.specs.Masses.{total, after}
@@ -18,7 +18,7 @@ loop-l-preserved c =
     let part = c.index-parts-l.result in
     let read = c.index-parts-l.is ∙ ap (λ ps. get_or ps l part) c.parts-parts.ensures.value in
     let within : l < length parts = omega arith in
-    let figure = c.failure-ppm.ensures.value ∙ ap figure_of read ∙ sym (get_or-map figure_of parts l part 0 within) in
+    let figure = c.failure_ppm.ensures.value ∙ ap figure_of read ∙ sym (get_or-map figure_of parts l part 0 within) in
     (after_more _ l _ _ _ _ figure c.loop-l.invariant.0 c.remaining-left.ensures.value, omega arith)
 
 pub returns : goal.returns
@@ -31,7 +31,7 @@ returns c =
     record {
       value = value;
       before = none;
-      all-states = λ e. none e ∙ sym (all_masses s);
+      all_states = λ e. none e ∙ sym (all_masses s);
       as_read = λ e. value ∙ ap (λ l. after (figures_of s) l c.args.self.number) (e ∙ sym (count_is s)) ∙ sym (mass_read s c.args.self.number);
       whole = λ e. value ∙ ap (λ l. after (figures_of s) l c.args.self.number) (e ∙ sym (count_is s));
       masses = value ∙ left_is (figures_of s) (figures_fine s) count c.args.self.number (omega (arith, count_is s));

@@ -3,10 +3,10 @@ use Rattle.states.proofs.Sheets.{few_parts}
 use Rattle.states.proofs.Steps.{move_fits, move_is}
 use Rattle.states.proofs.state.State.with_moved.Goals as goal
 
-pub invariant-of-result : goal.invariant-of-result
-invariant-of-result c =
+pub invariant_of-result : goal.invariant_of-result
+invariant_of-result c =
     let s = c.args.sheet.now in
-    (move_fits (count_of s) c.args.self.number _ _ _ (few_parts s) c.low.ensures.value c.requires.greatest c.power.ensures c.requires.some c.requires.room, tt)
+    record { parts = move_fits (count_of s) c.args.self.number _ _ _ (few_parts s) c.low.ensures.value c.requires.greatest c.power.ensures c.requires.some c.requires.room }
 
 pub returns : goal.returns
 returns c =

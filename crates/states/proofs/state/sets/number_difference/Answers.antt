@@ -3,8 +3,8 @@ use lib.Bits.{and_le_l}
 use Rattle.states.proofs.Sets.{bit_difference}
 use Rattle.states.proofs.state.sets.number_difference.Goals as goal
 
-pub overflow-sub-result : goal.overflow-sub-result
-overflow-sub-result c = and_le_l c.args.one c.args.other
+pub overflow_sub-result : goal.overflow_sub-result
+overflow_sub-result c = and_le_l c.args.one c.args.other
 
 pub returns : goal.returns
 returns c =

@@ -6,4 +6,4 @@ pub returns : goal.returns
 returns c =
     let x = c.args.one in
     let y = c.args.other in
-    record { value = refl; parts = λ t j h. disjoint_bit x y (pred j) t h; all-parts = λ f. disjoint_from x y (λ k. f (suc k)) }
+    record { value = refl; parts = λ t j h. disjoint_bit x y (pred j) t h; all_parts = λ f. disjoint_from x y (λ k. f (suc k)) }

@@ -1,4 +1,4 @@
-use Rattle.std.proofs.Common.{◌≡◌, pred, ◌^◌, ◌<◌, ap, ◌∙◌, arith}
+use Rattle.std.proofs.Common.{pred, ◌^◌, ◌<◌, ap, ◌∙◌, arith}
 use lib.Bits.{bit_or, or_lt}
 use lib.Pow.{pow-lt}
 use Rattle.states.proofs.Sets.{or_with, has_with}

@@ -9,5 +9,5 @@ returns c =
     record {
       value = refl;
       parts = λ t j h. within_bit x y (pred j) (eqb-true _ _ t) h;
-      all-parts = λ f. eq-eqb _ _ (within_from x y (λ k. f (suc k)));
+      all_parts = λ f. eq-eqb _ _ (within_from x y (λ k. f (suc k)));
     }

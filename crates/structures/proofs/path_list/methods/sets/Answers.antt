@@ -5,7 +5,7 @@ use Rattle.structures.proofs.path_list.methods.sets.Goals as goal
 
 pub loop-number-preserved : goal.loop-number-preserved
 loop-number-preserved c =
-    one_set c.args.numbers.now c.loop-number.number-index _ _ c.new.result c.in-ok-push.ensures.items
+    one_set c.args.numbers.now c.loop-number.number-index _ _ c.new.result c.in_ok-push.ensures.items
     c.loop-number.invariant c.loop-number-test.true (search rules)
 
 pub returns : goal.returns
