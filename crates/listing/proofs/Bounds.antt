@@ -1,10 +1,9 @@
 -- Figures never widen, the first calls are never full, and a listing comes to its end. Assumes nothing.
-use Rattle.std.proofs.Common.{◌≡◌, ℕ, zero, suc, ◌+◌, ◌-◌, ◌*◌, ◌/◌, ◌^◌, ◌<◌, ◌≤◌, Bool, true, false, cond, ◌&&◌, ltb, List, [], ◌∷◌, ◌++◌, length, sym, refl, ap, ◌∙◌, subst, inl, inr, arith, lit<, lit≤, pow_pos, le-ltb}
+use Rattle.std.proofs.Common.{◌≡◌, ℕ, suc, ◌^◌, ◌<◌, ◌≤◌, Bool, true, false, cond, ◌&&◌, ltb, List, [], ◌∷◌, ◌++◌, length, sym, refl, ap, subst, inl, inr, arith, lit<, lit≤, pow_pos, le-ltb}
 use Rattle.std.proofs.lemmas.List.{same_from_push, length-append, length_push, append-nil, append_assoc}
 use Rattle.std.proofs.lemmas.Bool.{cond-false, and_left}
 use Rattle.std.specs.List.{AllByRecursion as All}
 use Rattle.states.specs.Lists.{In}
-use Rattle.states.specs.Masses.{total}
 use Rattle.states.specs.Sets.{with_part}
 use Rattle.states.specs.Steps.{low, top, add_step, move_step}
 use Rattle.states.specs.Sums.{sum_of}
@@ -21,7 +20,7 @@ use Rattle.listing.specs.declared.answers.Ending.{Ending}
 use Rattle.listing.specs.declared.answers.Ending.TheVariants as ends
 use Rattle.listing.proofs.Invariant.{Lawful, Kept}
 use Rattle.listing.proofs.Lawfully.{ones_below, taken_each}
-use Rattle.listing.proofs.Unique.{Alike, OneHistory, one_history}
+use Rattle.listing.proofs.Unique.{one_history}
 
 -- sums only grow
 pub record Grown (l l' : Memory) : Type 0 where

@@ -1,12 +1,11 @@
 -- The law of listings, from what a listing keeps. Assumes nothing.
-use Rattle.std.proofs.Common.{◌≡◌, ℕ, zero, suc, ◌+◌, ◌-◌, ◌*◌, ◌/◌, ◌^◌, ◌<◌, ◌≤◌, Bool, true, false, cond, ◌||◌, ◌⊎◌, List, [], ◌∷◌, ◌++◌, length, sym, refl, ap, ◌∙◌, subst, ap₂, inl, inr, ⊎_elim, mul-le-mul_left, arith}
+use Rattle.std.proofs.Common.{◌≡◌, ℕ, zero, suc, ◌-◌, ◌*◌, ◌/◌, ◌^◌, ◌≤◌, Bool, true, false, cond, ◌||◌, ◌⊎◌, List, [], ◌∷◌, ◌++◌, length, sym, refl, ap, ◌∙◌, subst, inl, inr, ⊎_elim, arith}
 use borrow.Author.Tests.{clash}
 use Rattle.std.specs.List.{AllByRecursion as All}
 use Rattle.std.proofs.lemmas.List.{append-nil, append_assoc, same_from_push}
 use Rattle.std.proofs.lemmas.Bool.{cases_eq, or_cases}
 use Rattle.states.specs.Lists.{In}
 use Rattle.states.specs.Masses.{total}
-use Rattle.states.specs.Sets.{Within}
 use Rattle.states.specs.Sums.{sum_below, sum_of}
 use Rattle.states.specs.Trees.{in_tree, cone_sum}
 use Rattle.states.proofs.Lists.{all_in, sum_of_le}
@@ -17,12 +16,12 @@ use Rattle.rankings.proofs.Trees.{root_first}
 use Rattle.listing.specs.Calls.{Runs, ends_here, goes_on, Step, next_step, run_step, refused_step, figures_step, Led, none, more, ran_out, Ends}
 use Rattle.listing.specs.Handing.{NextAnswer, handed_out, finished, full, Foremost, HandsOut, Next, handed_by, is_finished}
 use Rattle.listing.specs.Law.{Covered, ListingLaw}
-use Rattle.listing.specs.Memories.{Memory, opened, lower, upper, rounded_up}
-use Rattle.listing.specs.Stations.{Station, parts, up_in, mass_in, Ahead, OnSheet, reliability, MinimalCut}
+use Rattle.listing.specs.Memories.{Memory, rounded_up}
+use Rattle.listing.specs.Stations.{Station, parts, up_in, Ahead, OnSheet, reliability, MinimalCut}
 use Rattle.listing.specs.declared.answers.Call.{Call}
 use Rattle.listing.specs.declared.answers.Ending.{Ending}
 use Rattle.listing.specs.declared.answers.Ending.TheVariants as ends
-use Rattle.listing.proofs.Accounts.{fails_above, Where, handed, covered, hangs, find, all_masses, up_bound, down_bound, up_exact, down_exact}
+use Rattle.listing.proofs.Accounts.{fails_above, Where, handed, covered, hangs, find, up_bound, down_bound, up_exact, down_exact}
 use Rattle.listing.proofs.Best.{NonePassedOver, heaviest}
 use Rattle.listing.proofs.Invariant.{Lawful, Kept, taken, kept_opened, kept_next}
 

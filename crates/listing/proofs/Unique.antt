@@ -1,5 +1,5 @@
 -- A list of calls has one sequence of answers, and leaves one set of figures, however the waiting states are stored. Assumes nothing.
-use Rattle.std.proofs.Common.{◌≡◌, ℕ, suc, ◌+◌, ◌*◌, ◌^◌, ◌<◌, ◌≤◌, Bool, true, false, cond, ◌||◌, ◌⊎◌, List, [], ◌∷◌, ◌++◌, length, sym, refl, ap, ◌∙◌, subst, ap₂, subst₂, inl, inr, ⊎_elim, arith}
+use Rattle.std.proofs.Common.{◌≡◌, ℕ, ◌+◌, ◌<◌, ◌≤◌, Bool, cond, ◌||◌, List, [], ◌∷◌, ◌++◌, length, sym, refl, ap, ◌∙◌, subst, ap₂, subst₂, ⊎_elim, arith}
 use Rattle.std.proofs.lemmas.List.{same_from_push}
 use Rattle.states.specs.Lists.{In, Same}
 use Rattle.states.specs.Sums.{sum_of}
@@ -12,7 +12,7 @@ use Rattle.listing.specs.declared.answers.Ending.{Ending}
 use Rattle.listing.specs.declared.answers.Ending.TheVariants as ends
 use Rattle.listing.specs.Handing.{NextAnswer, handed_out, finished, full, next_states, Foremost, HandsOut, Next, handed_by, is_finished}
 use Rattle.listing.specs.Memories.{Memory, opened}
-use Rattle.listing.specs.Stations.{Station, parts, up_in, mass_in, share_in, Ahead, OnSheet}
+use Rattle.listing.specs.Stations.{Station, parts, up_in, mass_in, share_in, OnSheet}
 use Rattle.listing.proofs.Invariant.{Lawful, Kept, kept_next}
 use Rattle.listing.proofs.Lawfully.{never_both, lasts}
 

@@ -1,5 +1,5 @@
 -- What a run does, and where a list of calls leads. Assumes nothing.
-use Rattle.std.specs.Prelude.{◌≡◌, ℕ, zero, suc, ◌+◌, ◌*◌, ◌^◌, ◌<◌, ◌≤◌, Bool, true, false, ◌||◌, List, [], ◌∷◌, ◌++◌, ◌≢◌}
+use Rattle.std.specs.Prelude.{◌≡◌, ℕ, suc, ◌+◌, ◌*◌, ◌^◌, ◌<◌, ◌≤◌, Bool, true, false, ◌||◌, List, [], ◌∷◌, ◌++◌, ◌≢◌}
 use Rattle.listing.specs.Handing.{NextAnswer, handed_out, full, Next, handed_by, is_finished}
 use Rattle.listing.specs.Memories.{Memory, opened}
 use Rattle.listing.specs.Stations.{Station}

@@ -1,5 +1,5 @@
 -- What a listing keeps, and the figures that it answers. Assumes nothing.
-use Rattle.std.specs.Prelude.{ℕ, ◌+◌, ◌-◌, ◌*◌, ◌/◌, List, [], ◌∷◌, length}
+use Rattle.std.specs.Prelude.{ℕ, ◌+◌, ◌-◌, ◌*◌, ◌/◌, List, [], ◌∷◌}
 use Rattle.states.specs.Masses.{total}
 
 -- the waiting states, the up and the down sum, and how many states were handed out

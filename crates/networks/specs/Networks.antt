@@ -1,5 +1,5 @@
 -- What a network means, and what its making answers. Assumes nothing.
-use Rattle.std.specs.Prelude.{◌≡◌, ℕ, zero, suc, ◌^◌, Bool, true, false, cond, not, ◌&&◌, ◌||◌, List, [], ◌∷◌, map, length, Ok, Err, vec_items, Result, bit_or, nat_lt}
+use Rattle.std.specs.Prelude.{◌≡◌, ℕ, zero, suc, ◌^◌, Bool, false, cond, not, ◌&&◌, ◌||◌, List, [], ◌∷◌, map, length, Ok, Err, vec_items, Result, bit_or, nat_lt}
 use Rattle.states.specs.Sets.{bit, has}
 use Rattle.networks.specs.Refusals.{network_refusal}
 use Rattle.networks.specs.declared.link.Link.{Link}

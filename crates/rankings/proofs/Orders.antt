@@ -1,7 +1,7 @@
 -- 'Ahead' is a strict total order on the states of a sheet, for every ranking that keeps its laws. Assumes nothing.
-use Rattle.std.proofs.Common.{◌≡◌, ℕ, ◌^◌, ◌<◌, ◌≤◌, Bool, true, false, cond, not, ◌&&◌, ◌||◌, ltb, ◌⊎◌, sym, refl, ap, ◌∙◌, ap₂, inl, inr, ⊎_elim, mod-eq_of_lt, arith, ltb-false, ltb-true, le-ltb, lt-ltb}
+use Rattle.std.proofs.Common.{◌≡◌, ℕ, ◌^◌, ◌<◌, ◌≤◌, Bool, true, false, not, ◌&&◌, ◌||◌, ltb, ◌⊎◌, sym, refl, ap, ◌∙◌, ap₂, inl, inr, ⊎_elim, mod-eq_of_lt, arith, ltb-true, le-ltb, lt-ltb}
 use borrow.Author.Tests.{clash}
-use Rattle.std.proofs.lemmas.Bool.{cases_Bool, cases_order, or_cases, or_left, or_right, or_from, and_parts, and_from, not-true, not_from_false, cases_lt}
+use Rattle.std.proofs.lemmas.Bool.{cases_Bool, or_cases, or_left, or_right, and_parts, and_from, not-true, not_from_false, cases_lt}
 use Rattle.rankings.specs.declared.ranking.Rank.{Rank}
 use Rattle.rankings.specs.declared.ranking.Rank.TheVariants.{Higher, Lower, Tied}
 use Rattle.states.specs.Steps.{low}

@@ -1,7 +1,7 @@
 -- The exact ranking's two laws, of the rounded masses themselves. Assumes nothing.
-use Rattle.std.specs.Prelude.{◌≡◌, ℕ, zero, suc, ◌+◌, ◌-◌, ◌*◌, ◌/◌, ◌^◌, ◌<◌, ◌≤◌, Bool, true, false, List, [], ◌∷◌, length, slice_index, slice_index_or}
+use Rattle.std.specs.Prelude.{◌≡◌, ℕ, zero, suc, ◌+◌, ◌-◌, ◌*◌, ◌^◌, ◌<◌, ◌≤◌, Bool, true, false, List, [], ◌∷◌, length, slice_index, slice_index_or}
 use Rattle.std.proofs.Math.Path.{refl, ap, ap₂}
-use Rattle.std.proofs.Common.{sym, ◌∙◌, mul-le-mul_left, mul-le-mul_right, add-mul, le-ltb}
+use Rattle.std.proofs.Common.{mul-le-mul_left, mul-le-mul_right, le-ltb}
 use native.Mathlib.Omega.{arith}
 use Rattle.sheet.specs.Parts.{figures_of, count_of}
 use Rattle.sheet.specs.declared.sealed.Sheet.{Sheet}

@@ -1,6 +1,6 @@
 -- Orders of states with ties, what is asked of them on a sheet of n parts, and what a comparison answers. Assumes nothing.
 use Rattle.std.specs.Prelude.{◌≡◌, ℕ, ◌^◌, ◌<◌, Bool, true, false, cond, not, ◌&&◌, ◌||◌, [], ◌∷◌, ◌≢◌, nat_lt}
-use Rattle.states.specs.Steps.{low, add_step, move_step}
+use Rattle.states.specs.Steps.{add_step, move_step}
 use Rattle.rankings.specs.declared.ranking.Rank.{Rank}
 use Rattle.rankings.specs.declared.ranking.Rank.TheVariants.{Higher, Lower, Tied}
 

@@ -1,5 +1,5 @@
 -- The masses of working and of failing states together. Assumes nothing.
-use Rattle.std.proofs.Common.{◌≡◌, ℕ, ◌+◌, Bool, true, false, cond, List, length, sym, refl, ◌∙◌, arith}
+use Rattle.std.proofs.Common.{◌≡◌, ℕ, ◌+◌, Bool, true, false, cond, List, length, sym, ◌∙◌, arith}
 use Rattle.states.specs.Masses.{mass}
 use Rattle.states.specs.Sums.{sum_below}
 use Rattle.states.proofs.Sums.{sum_same, sum_add}

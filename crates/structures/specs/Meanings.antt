@@ -1,5 +1,5 @@
 -- What each structure and layer means: whether the station works in the state x. Assumes nothing.
-use Rattle.std.specs.Prelude.{ℕ, zero, suc, ◌+◌, Bool, true, false, cond, not, ◌&&◌, ◌||◌, List, [], ◌∷◌, nat_le}
+use Rattle.std.specs.Prelude.{ℕ, zero, suc, ◌+◌, Bool, false, cond, not, ◌&&◌, ◌||◌, List, [], ◌∷◌, nat_le}
 use Rattle.states.specs.Sets.{has, with_part, without_part, disjoint}
 use Rattle.structures.specs.declared.given.Condition.{Condition}
 use Rattle.structures.specs.declared.given.Condition.TheVariants.{Sound, Failed}

@@ -1,6 +1,6 @@
 -- The law of each structure and layer: what works in a state works in every state that it contains. Assumes nothing.
-use Rattle.std.specs.Prelude.{◌≡◌, ℕ, zero, suc, pred, ◌+◌, ◌^◌, ◌<◌, ◌≤◌, Bool, true, false, cond, not, ◌&&◌, ◌||◌, List, [], ◌∷◌, refl}
-use Rattle.std.proofs.Common.{sym, ◌∙◌, ap, ap₂, ⊎_elim, le_trans, arith}
+use Rattle.std.specs.Prelude.{◌≡◌, ℕ, zero, suc, pred, ◌+◌, ◌^◌, ◌<◌, ◌≤◌, Bool, true, false, cond, not, ◌&&◌, List, [], ◌∷◌, refl}
+use Rattle.std.proofs.Common.{ap₂, ⊎_elim, le_trans, arith}
 use borrow.Author.Tests.{le-leb, leb-true, clash}
 use Rattle.std.proofs.lemmas.Bool.{and_parts, and_from, or_cases, or_left, or_right, not-true, not_from_false}
 use Rattle.states.specs.Sets.{bit, has, disjoint, difference, size, Within}

@@ -1,6 +1,5 @@
 -- What the making of a path list answers. Assumes nothing.
 use Rattle.std.specs.Prelude.{◌≡◌, ℕ, suc, ◌^◌, cond, List, [], ◌∷◌, map, length, Some, None, Ok, Err, vec_items, Option, Result, nat_lt}
-use Rattle.states.specs.declared.state.State.{State}
 use Rattle.structures.specs.Refusals.{path_list_refusal}
 use Rattle.structures.specs.declared.path_list.PathList.{PathList}
 use Rattle.structures.specs.declared.refusal.PathListError.{PathListError}

@@ -1,5 +1,5 @@
 -- One state more, and all states. Assumes nothing.
-use Rattle.std.proofs.Common.{◌≡◌, ℕ, ◌+◌, ◌*◌, ◌%◌, ◌^◌, ◌<◌, ◌≤◌, Bool, cond, List, length, sym, refl, ap, ◌∙◌, ap₂, lt_of_lt_of_le, mod-eq_of_lt, arith, pow_mono}
+use Rattle.std.proofs.Common.{◌≡◌, ℕ, ◌+◌, ◌*◌, ◌%◌, ◌^◌, ◌<◌, ◌≤◌, Bool, cond, List, length, sym, ap, ◌∙◌, ap₂, mod-eq_of_lt, arith}
 use Rattle.std.proofs.lemmas.Nat.{one_shl}
 use Rattle.sheet.specs.Parts.{figures_of, count_of}
 use Rattle.sheet.specs.declared.sealed.Sheet.{Sheet}

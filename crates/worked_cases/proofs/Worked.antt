@@ -3,7 +3,7 @@ use mathlib.Core.Path.{refl}
 use lib.Dec.{leb-zero}
 use Rattle.sheet.specs.Grades.{figure, table}
 use Rattle.states.specs.Masses.{after}
-use Rattle.states.specs.Sets.{bit, with_part, without_part}
+use Rattle.states.specs.Sets.{bit}
 use Rattle.states.specs.Steps.{top}
 use Rattle.structures.specs.Meanings.{sound_parts}
 use Rattle.networks.specs.Networks.{network_works, rounds}

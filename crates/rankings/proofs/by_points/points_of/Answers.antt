@@ -17,10 +17,10 @@ loop-l-preserved c =
     let read = c.index-parts-l.is ∙ ap (λ ps. get_or ps l part) c.parts-parts.ensures.value in
     let many : length c.parts-parts.result.now ≡ length parts = ap length c.parts-parts.ensures.value in
     let within : l < length parts = omega arith in
-    let grade = c.number_in-loop-l.ensures.value ∙ ap grade_of read ∙ sym (get_or-map grade_of parts l part 0 within) in
-    let made = c.more_points-sum.ensures ∙ ap (λ n. c.loop-l.sum + cond (eqb (n / 2 ^ l % 2) 1) c.number_in-loop-l.result 0) c.number.ensures.value in
-    let small : cond (eqb (c.args.state.number / 2 ^ l % 2) 1) c.number_in-loop-l.result 0 ≤ 39 =
-    cond_both (eqb (c.args.state.number / 2 ^ l % 2) 1) c.number_in-loop-l.result 0 (λ n. n ≤ 39) (λ t. c.number_in-loop-l.ensures.known) (λ t. omega arith) in
+    let grade = c.number-in-loop-l.ensures.value ∙ ap grade_of read ∙ sym (get_or-map grade_of parts l part 0 within) in
+    let made = c.more_points-sum.ensures ∙ ap (λ n. c.loop-l.sum + cond (eqb (n / 2 ^ l % 2) 1) c.number-in-loop-l.result 0) c.number.ensures.value in
+    let small : cond (eqb (c.args.state.number / 2 ^ l % 2) 1) c.number-in-loop-l.result 0 ≤ 39 =
+    cond_both (eqb (c.args.state.number / 2 ^ l % 2) 1) c.number-in-loop-l.result 0 (λ n. n ≤ 39) (λ t. c.number-in-loop-l.ensures.known) (λ t. omega arith) in
     (points_more (grades_of c.args.sheet.now) l c.args.state.number _ _ _ grade c.loop-l.invariant.0 made, omega (arith, made, small))
 
 pub returns : goal.returns

@@ -1,4 +1,4 @@
-use Rattle.std.proofs.Common.{◌≡◌, ◌+◌, ◌||◌, drop, sym, ap, ◌∙◌}
+use Rattle.std.proofs.Common.{◌+◌, ◌||◌, drop, sym, ap, ◌∙◌}
 use Rattle.networks.specs.Networks.{some_link, end_too_high}
 use Rattle.networks.proofs.Links.{one_link, no_link}
 use Rattle.networks.proofs.network.methods.some_end_high.Goals as goal

@@ -1,4 +1,4 @@
-use Rattle.std.proofs.Common.{◌≡◌, ◌+◌, ◌||◌, drop, sym, ap, ◌∙◌}
+use Rattle.std.proofs.Common.{◌+◌, ◌||◌, drop, sym, ap, ◌∙◌}
 use Rattle.networks.specs.Networks.{some_link, part_unknown}
 use Rattle.networks.proofs.Links.{one_link, no_link}
 use Rattle.networks.proofs.network.methods.some_part_unknown.Goals as goal

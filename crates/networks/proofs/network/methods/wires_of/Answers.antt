@@ -1,4 +1,4 @@
-use Rattle.std.proofs.Common.{◌≡◌, ltb, length, get_or, vec_items, sym, ap, ◌∙◌, arith, ltb-false}
+use Rattle.std.proofs.Common.{ltb, length, get_or, vec_items, sym, ap, ◌∙◌, arith, ltb-false}
 use Rattle.std.proofs.lemmas.List.{take_all, length-map}
 use Rattle.std.proofs.lemmas.Bool.{or_parts}
 use Rattle.networks.specs.Networks.{link_of, end_too_high, part_unknown}

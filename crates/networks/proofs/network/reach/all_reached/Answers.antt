@@ -1,4 +1,4 @@
-use Rattle.std.proofs.Common.{◌≡◌, map, sym, refl, ap, ◌∙◌}
+use Rattle.std.proofs.Common.{map, sym, refl, ap, ◌∙◌}
 use Rattle.networks.specs.Networks.{link_of, one_round, rounds}
 use Rattle.networks.specs.Rounds.{rounds_more}
 use Rattle.networks.proofs.network.reach.all_reached.Goals as goal

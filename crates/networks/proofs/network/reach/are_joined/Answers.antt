@@ -1,4 +1,4 @@
-use Rattle.std.proofs.Common.{◌≡◌, sym, ap, ◌∙◌}
+use Rattle.std.proofs.Common.{sym, ap, ◌∙◌}
 use Rattle.states.specs.Sets.{bit}
 use Rattle.networks.specs.Networks.{network_works}
 use Rattle.networks.specs.Rounds.{works_walk, walk_works, known_wires}

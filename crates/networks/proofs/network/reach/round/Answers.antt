@@ -1,4 +1,4 @@
-use Rattle.std.proofs.Common.{◌≡◌, ◌+◌, map, drop, sym, ap, ◌∙◌}
+use Rattle.std.proofs.Common.{◌+◌, map, drop, sym, ap, ◌∙◌}
 use Rattle.networks.specs.Networks.{link_of, one_round}
 use Rattle.networks.proofs.Links.{one_over, round_over}
 use Rattle.networks.proofs.network.reach.round.Goals as goal

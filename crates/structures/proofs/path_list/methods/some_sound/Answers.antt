@@ -1,4 +1,4 @@
-use Rattle.std.proofs.Common.{◌≡◌, ◌+◌, ◌||◌, map, drop, sym, ap, ◌∙◌}
+use Rattle.std.proofs.Common.{◌+◌, ◌||◌, map, drop, sym, ap, ◌∙◌}
 use Rattle.structures.specs.Meanings.{path_list_works}
 use Rattle.structures.proofs.Paths.{one_path, no_path}
 use Rattle.structures.proofs.path_list.methods.some_sound.Goals as goal

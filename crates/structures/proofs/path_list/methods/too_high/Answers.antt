@@ -1,4 +1,4 @@
-use Rattle.std.proofs.Common.{◌≡◌, ◌∙◌, rules}
+use Rattle.std.proofs.Common.{◌∙◌, rules}
 use Rattle.structures.proofs.Paths.{here, not_here, nowhere}
 use Rattle.structures.proofs.path_list.methods.too_high.Goals as goal
 
