@@ -3,7 +3,7 @@ use Rattle.std.proofs.Common.{◌≡◌, ℕ, zero, suc, ◌+◌, ◌-◌, ◌*�
 use borrow.Author.Tests.{clash}
 use Rattle.std.proofs.lemmas.List.{length-append, length_push, append-nil, append_assoc}
 use Rattle.std.proofs.lemmas.Bool.{cond-false, and_left, or_parts}
-use Rattle.std.specs.List.{AllByRecursion as All}
+use Rattle.std.specs.List.{AllByRecursion}
 use Rattle.states.specs.Lists.{In}
 use Rattle.states.specs.Masses.{total}
 use Rattle.states.specs.Sets.{with_part}

@@ -1,6 +1,6 @@
 -- What a listing keeps true from call to call. Assumes nothing.
 use Rattle.std.proofs.Common.{◌≡◌, ℕ, zero, suc, ◌+◌, ◌*◌, ◌^◌, ◌<◌, ◌≤◌, Bool, true, false, cond, ◌⊎◌, List, [], ◌∷◌, ◌++◌, length, get_or, sym, refl, ap, ◌∙◌, subst, ap₂, inl, inr, ⊎_elim, arith, pow_pos}
-use Rattle.std.specs.List.{AllByRecursion as All}
+use Rattle.std.specs.List.{AllByRecursion}
 use Rattle.std.proofs.ByRecursion.{All-push}
 use Rattle.std.proofs.lemmas.List.{length_push}
 use Rattle.std.proofs.lemmas.Bool.{cond-true}
@@ -38,8 +38,8 @@ taken w h x = cond (up_in w x) (h x) (cone_sum (parts w) h x)
 pub record Kept (w : Station) (xs : List ℕ) (l : Memory) : Type 0 where
   -- every weight h is accounted for: handed out, or hanging under what waits
   pub accounts : (h : ℕ → ℕ) → sum_of (taken w h) xs + sum_of (tree_sum (parts w) h) l.waiting ≡ sum_below (2 ^ parts w) h
-  pub on_sheet : All (OnSheet w) xs
-  pub waiting_on_sheet : All (OnSheet w) l.waiting
+  pub on_sheet : AllByRecursion (OnSheet w) xs
+  pub waiting_on_sheet : AllByRecursion (OnSheet w) l.waiting
   pub in_order : Pairwise (Ahead w) xs
   pub before_waiting : (x y : ℕ) → In x xs → In y l.waiting → Ahead w x y
   pub up_is : l.up ≡ sum_of (λ x. cond (up_in w x) (mass_in w x) 0) xs
@@ -124,7 +124,7 @@ module _ (w : Station) (laws : Lawful w) where
         let hangs = member_le (tree_sum (parts w) (only x)) l'.waiting x i in
         omega (arith, all, one, out, hangs, takes_itself w x x_on, only_tree (parts w) x x x_on, in_tree_one (parts w) x x_on)
 
-    on_sheet : All (OnSheet w) l'.waiting
+    on_sheet : AllByRecursion (OnSheet w) l'.waiting
     on_sheet = all_from_in (OnSheet w) l'.waiting (λ y i. ⊎_elim (λ j. (steps_within (parts w) x x_on y j).0) (λ j. all_in (OnSheet w) l.waiting y k.waiting_on_sheet j) (waited y i))
 
     -- whatever was handed out is ahead of whatever waits now

@@ -1,7 +1,7 @@
 -- The law of listings, from what a listing keeps. Assumes nothing.
 use Rattle.std.proofs.Common.{◌≡◌, ℕ, zero, suc, ◌+◌, ◌-◌, ◌*◌, ◌/◌, ◌^◌, ◌<◌, ◌≤◌, Bool, true, false, cond, ◌||◌, ◌⊎◌, List, [], ◌∷◌, ◌++◌, length, sym, refl, ap, ◌∙◌, subst, ap₂, subst₂, inl, inr, ⊎_elim, mul-le-mul_left, arith}
 use borrow.Author.Tests.{clash}
-use Rattle.std.specs.List.{AllByRecursion as All}
+use Rattle.std.specs.List.{AllByRecursion}
 use Rattle.std.proofs.lemmas.List.{append-nil, append_assoc, same_from_push}
 use Rattle.std.proofs.lemmas.Bool.{cases_eq, or_cases}
 use Rattle.states.specs.Lists.{In}
@@ -39,7 +39,7 @@ ones_below zero = refl
 ones_below (suc m) = omega (arith, ones_below m)
 
 -- each state handed out takes at least itself
-pub taken_each : (w : Station) (xs : List ℕ) → All (OnSheet w) xs → length xs ≤ sum_of (taken w (λ x. 1)) xs
+pub taken_each : (w : Station) (xs : List ℕ) → AllByRecursion (OnSheet w) xs → length xs ≤ sum_of (taken w (λ x. 1)) xs
 taken_each w xs on =
     omega (arith, ones_of xs, sum_of_le (λ x. 1) (taken w (λ x. 1)) xs (λ x i. one x (all_in (OnSheet w) xs x on i) (up_in w x)))
   where

@@ -1,6 +1,6 @@
 -- The law of listings. Assumes nothing.
 use Rattle.std.specs.Prelude.{◌≡◌, ℕ, ◌+◌, ◌*◌, ◌/◌, ◌^◌, ◌<◌, ◌≤◌, Bool, true, false, cond, ◌⊎◌, List, [], ◌∷◌, ◌++◌, map, length, ◌≢◌}
-use Rattle.std.specs.List.{AllByRecursion as All}
+use Rattle.std.specs.List.{AllByRecursion}
 use Rattle.states.specs.Lists.{In, Different, Pairwise}
 use Rattle.states.specs.Masses.{total}
 use Rattle.states.specs.Sets.{Within}
@@ -22,7 +22,7 @@ ProperlyCovered w xs y = (x : ℕ) × In x xs × (up_in w x ≡ false) × Within
 -- which states xs were handed out, and in which order
 pub record OrderLaw (w : Station) (xs : List ℕ) (finished : Bool) : Type 0 where
   -- all are states of the sheet, and each is ahead of all later ones
-  pub on_sheet : All (OnSheet w) xs
+  pub on_sheet : AllByRecursion (OnSheet w) xs
   pub in_order : Pairwise (Ahead w) xs
   -- whatever is ahead of the last one was handed out, or contains a failing one handed out before that last one
   pub none_passed_over : (before : List ℕ) (z : ℕ) → xs ≡ before ++ z ∷ [] → (y : ℕ) → OnSheet w y → Ahead w y z → In y before ⊎ Covered w before y
@@ -50,7 +50,7 @@ pub record FiguresLaw (w : Station) (xs : List ℕ) (finished : Bool) (l : Memor
 abbrev pub Heaviest : Station → List ℕ → Type 0
 Heaviest w xs =
     ((x y : ℕ) → OnSheet w x → OnSheet w y → w.outranks x y ≡ heavier w.figures x y)
-    → (zs : List ℕ) → All (OnSheet w) zs → Different zs → length zs ≡ length xs → All (λ z. ProperlyCovered w xs z → ⊥) zs
+    → (zs : List ℕ) → AllByRecursion (OnSheet w) zs → Different zs → length zs ≡ length xs → AllByRecursion (λ z. ProperlyCovered w xs z → ⊥) zs
     → sum_of (mass_in w) zs ≤ sum_of (mass_in w) xs
 
 -- how the calls ms followed one another

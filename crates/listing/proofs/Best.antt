@@ -1,6 +1,6 @@
 -- Where the ranking is by mass, the states handed out are the heaviest. Assumes nothing.
 use Rattle.std.proofs.Common.{◌≡◌, ℕ, ◌≤◌, false, not, ◌⊎◌, List, [], ◌∷◌, ◌++◌, length, sym, refl, ap, ◌∙◌, subst, inl, inr, ⊎_elim, arith, ltb-false}
-use Rattle.std.specs.List.{AllByRecursion as All}
+use Rattle.std.specs.List.{AllByRecursion}
 use Rattle.std.proofs.lemmas.List.{nil_from_length}
 use Rattle.std.proofs.lemmas.Bool.{cases_eq, cases_Bool, or_cases, and_parts, not-true}
 use Rattle.states.specs.Lists.{In, Different, Pairwise}
@@ -43,7 +43,7 @@ module _ (w : Station) (one_way : OneWay (parts w) w.outranks) (order : StrictOr
       not_over : w.outranks y x ≡ false
       not_over = ⊎_elim (λ o. one_way x y x_on y_on o) (λ b. not-true _ (and_parts (not (w.outranks y x)) _ b).0) (or_cases (w.outranks x y) _ a)
 
-  module _ (before : List ℕ) (z : ℕ) (on : All (OnSheet w) (before ++ z ∷ [])) (sorted : Pairwise (Ahead w) (before ++ z ∷ [])) (passed : NonePassedOver w (before ++ z ∷ [])) where
+  module _ (before : List ℕ) (z : ℕ) (on : AllByRecursion (OnSheet w) (before ++ z ∷ [])) (sorted : Pairwise (Ahead w) (before ++ z ∷ [])) (passed : NonePassedOver w (before ++ z ∷ [])) where
     xs : List ℕ
     xs = before ++ z ∷ []
 
@@ -54,7 +54,7 @@ module _ (w : Station) (one_way : OneWay (parts w) w.outranks) (order : StrictOr
     z_on = all_in (OnSheet w) (before ++ z ∷ []) z on z_in
 
     -- the last one is the lightest
-    lightest : All (λ h. mass_in w z ≤ mass_in w h) (before ++ z ∷ [])
+    lightest : AllByRecursion (λ h. mass_in w z ≤ mass_in w h) (before ++ z ∷ [])
     lightest = all_from_in _ (before ++ z ∷ []) (λ h i. ⊎_elim (earlier h i) here (in_append_cases before (z ∷ []) h i))
       where
         earlier : (h : ℕ) → In h (before ++ z ∷ []) → In h before → mass_in w z ≤ mass_in w h
@@ -80,11 +80,11 @@ module _ (w : Station) (one_way : OneWay (parts w) w.outranks) (order : StrictOr
             (λ b. inr (heavier_first z v z_on v-on (order.one_of_two z v z_on v-on (λ e. ne (sym e)) ∙ ap not b)))
             (cases_Bool (ahead w.outranks v z))
 
-  pub heaviest : (xs : List ℕ) → All (OnSheet w) xs → Pairwise (Ahead w) xs → NonePassedOver w xs
-      → (zs : List ℕ) → All (OnSheet w) zs → Different zs → length zs ≡ length xs → All (λ z. ProperlyCovered w xs z → ⊥) zs → sum_of (mass_in w) zs ≤ sum_of (mass_in w) xs
+  pub heaviest : (xs : List ℕ) → AllByRecursion (OnSheet w) xs → Pairwise (Ahead w) xs → NonePassedOver w xs
+      → (zs : List ℕ) → AllByRecursion (OnSheet w) zs → Different zs → length zs ≡ length xs → AllByRecursion (λ z. ProperlyCovered w xs z → ⊥) zs → sum_of (mass_in w) zs ≤ sum_of (mass_in w) xs
   heaviest xs on sorted passed zs zs-on different many free = go (ending xs) on sorted passed many free
     where
-      go : {ys : List ℕ} → Ending ys → All (OnSheet w) ys → Pairwise (Ahead w) ys → NonePassedOver w ys → length zs ≡ length ys → All (λ z. ProperlyCovered w ys z → ⊥) zs
+      go : {ys : List ℕ} → Ending ys → AllByRecursion (OnSheet w) ys → Pairwise (Ahead w) ys → NonePassedOver w ys → length zs ≡ length ys → AllByRecursion (λ z. ProperlyCovered w ys z → ⊥) zs
           → sum_of (mass_in w) zs ≤ sum_of (mass_in w) ys
       go empty o s p m f = let e = nil_from_length zs m in omega (arith, ap (sum_of (mass_in w)) e)
       go (last before z) o s p m f =

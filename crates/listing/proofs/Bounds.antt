@@ -2,7 +2,7 @@
 use Rattle.std.proofs.Common.{◌≡◌, ℕ, suc, ◌^◌, ◌<◌, ◌≤◌, Bool, true, false, cond, ◌&&◌, ltb, List, [], ◌∷◌, ◌++◌, length, sym, refl, ap, subst, inl, inr, arith, lit<, lit≤, pow_pos, le-ltb}
 use Rattle.std.proofs.lemmas.List.{same_from_push, length-append, length_push, append-nil, append_assoc}
 use Rattle.std.proofs.lemmas.Bool.{cond-false, and_left}
-use Rattle.std.specs.List.{AllByRecursion as All}
+use Rattle.std.specs.List.{AllByRecursion}
 use Rattle.states.specs.Lists.{In}
 use Rattle.states.specs.Sets.{with_part}
 use Rattle.states.specs.Steps.{low, top, add_step, move_step}
@@ -149,6 +149,6 @@ module _ (w : Station) where
 pub all_out : (w : Station) (xs : List ℕ) (l : Memory) → Kept w xs l → length xs ≡ 2 ^ parts w → l.waiting ≡ []
 all_out w xs l k e = none_left l.waiting k.waiting_on_sheet (omega (arith, taken_each w xs k.on_sheet, k.accounts (λ x. 1), ones_below (2 ^ parts w)))
   where
-    none_left : (zs : List ℕ) → All (OnSheet w) zs → sum_of (tree_sum (parts w) (λ x. 1)) zs ≡ 0 → zs ≡ []
+    none_left : (zs : List ℕ) → AllByRecursion (OnSheet w) zs → sum_of (tree_sum (parts w) (λ x. 1)) zs ≡ 0 → zs ≡ []
     none_left [] on h = refl
     none_left (z ∷ zs) on h = absurd (omega (arith, tree_step (parts w) z (λ x. 1) on.0))

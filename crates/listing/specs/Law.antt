@@ -1,7 +1,7 @@
 -- The law of listings. Assumes nothing.
 use Rattle.std.specs.Prelude.{◌≡◌, ℕ, ◌+◌, ◌*◌, ◌/◌, ◌^◌, ◌≤◌, Bool, true, false, cond, ◌⊎◌, List, [], ◌∷◌, ◌++◌, length, ◌≢◌}
 use Rattle.states.specs.Lists.{In, Different, Pairwise}
-use Rattle.std.specs.List.{AllByRecursion as All}
+use Rattle.std.specs.List.{AllByRecursion}
 use Rattle.states.specs.Masses.{total}
 use Rattle.states.specs.Sets.{Within}
 use Rattle.states.specs.Sums.{sum_of}
@@ -20,7 +20,7 @@ ProperlyCovered w xs y = (x : ℕ) × In x xs × (up_in w x ≡ false) × Within
 -- xs were handed out, in this order, and l is what the listing keeps
 pub record ListingLaw (w : Station) (xs : List ℕ) (finished : Bool) (l : Memory) : Type 0 where
   -- all are states of the sheet, and each is ahead of all later ones
-  pub on_sheet : All (OnSheet w) xs
+  pub on_sheet : AllByRecursion (OnSheet w) xs
   pub in_order : Pairwise (Ahead w) xs
   -- whatever is ahead of the last one was handed out, or contains a failing one handed out before that last one
   pub none_passed_over : (before : List ℕ) (z : ℕ) → xs ≡ before ++ z ∷ [] → (y : ℕ) → OnSheet w y → Ahead w y z → In y before ⊎ Covered w before y
@@ -42,5 +42,5 @@ pub record ListingLaw (w : Station) (xs : List ℕ) (finished : Bool) (l : Memor
   pub count_bound : length xs ≤ 2 ^ parts w
   -- where the ranking is by mass, no equally many states weigh more, of which none properly contains a failing one handed out
   pub heaviest : ((x y : ℕ) → OnSheet w x → OnSheet w y → w.outranks x y ≡ heavier w.figures x y)
-      → (zs : List ℕ) → All (OnSheet w) zs → Different zs → length zs ≡ length xs → All (λ z. ProperlyCovered w xs z → ⊥) zs
+      → (zs : List ℕ) → AllByRecursion (OnSheet w) zs → Different zs → length zs ≡ length xs → AllByRecursion (λ z. ProperlyCovered w xs z → ⊥) zs
       → sum_of (mass_in w) zs ≤ sum_of (mass_in w) xs

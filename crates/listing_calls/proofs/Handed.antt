@@ -1,6 +1,6 @@
 -- What handing out the foremost entry does: to the sums a listing keeps, to the order of what waits, and to its history. Assumes nothing.
 use Rattle.std.proofs.Common.{◌≡◌, ℕ, suc, ◌+◌, ◌^◌, ◌<◌, ◌≤◌, Bool, true, false, cond, ◌&&◌, ltb, ◌⊎◌, List, [], ◌∷◌, ◌++◌, map, length, sym, refl, ap, ◌∙◌, subst, ap₂, inl, inr, ⊎_elim, mod-eq_of_lt, arith}
-use Rattle.std.specs.List.{AllByRecursion as All}
+use Rattle.std.specs.List.{AllByRecursion}
 use Rattle.std.proofs.lemmas.List.{map-append, same_from_push, length-append, length-map}
 use Rattle.std.proofs.lemmas.Bool.{and_parts}
 use Rattle.states.specs.Lists.{In, Same, Different, Pairwise}

@@ -1,6 +1,6 @@
 -- Waiting states kept in order, the foremost last. Assumes nothing.
 use Rattle.std.proofs.Common.{◌≡◌, ℕ, zero, suc, ◌+◌, ◌^◌, ◌<◌, ◌≤◌, ◌⊎◌, List, [], ◌∷◌, ◌++◌, length, get_or, take, drop, sym, refl, ap, ◌∙◌, subst, inl, inr, ⊎_elim, arith, take-append-drop}
-use Rattle.std.specs.List.{insert, AllByRecursion as All}
+use Rattle.std.specs.List.{insert, AllByRecursion}
 use Rattle.states.specs.Lists.{In, Pairwise, Same}
 use Rattle.states.specs.Sums.{sum_of}
 use Rattle.states.proofs.Lists.{in_append_left, in_append_right, in_append_cases, all_in, all_from_in, sum_of_append}
@@ -18,7 +18,7 @@ module _ (R : ℕ → ℕ → Type 0) where
   pairwise_last (x ∷ xs) z y p (inr i) = pairwise_last xs z y p.1 i
 
   -- a member put in between
-  pub pairwise_insert : (xs ys : List ℕ) (x : ℕ) → Pairwise R (xs ++ ys) → All (λ y. R y x) xs → All (R x) ys → Pairwise R (xs ++ x ∷ ys)
+  pub pairwise_insert : (xs ys : List ℕ) (x : ℕ) → Pairwise R (xs ++ ys) → AllByRecursion (λ y. R y x) xs → AllByRecursion (R x) ys → Pairwise R (xs ++ x ∷ ys)
   pairwise_insert [] ys x p before after = (after, p)
   pairwise_insert (z ∷ zs) ys x p before after = (
     all_from_in (R z) (zs ++ x ∷ ys) (λ y i. ⊎_elim (λ j. all_in (R z) (zs ++ ys) y p.0 (in_append_left zs ys y j)) (other y) (in_append_cases zs (x ∷ ys) y i)),

@@ -4,7 +4,7 @@ use Rattle.std.proofs.ByRecursion.{All-push}
 use Rattle.std.proofs.lemmas.List.{append-nil, append_assoc}
 use Rattle.std.proofs.lemmas.Fmt.{decimal_is_IsNumeral}
 use Rattle.std.proofs.lemmas.Str.Parse.{digit_at}
-use Rattle.std.specs.List.{AllByRecursion as All}
+use Rattle.std.specs.List.{AllByRecursion}
 use Rattle.sheet_lines.specs.Cuts.{Free, marks}
 use Rattle.sheet_lines.specs.Tokens.{kind_in, fields_in, Parted, RightCount}
 use Rattle.sheet_lines.specs.declared.kind.Kind.{Kind}

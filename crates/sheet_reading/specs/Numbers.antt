@@ -1,6 +1,6 @@
 -- The numbers of a line's fields. Assumes nothing.
 use Rattle.std.specs.Prelude.{◌≡◌, ℕ, ◌+◌, ◌^◌, ◌<◌, ◌⊎◌, List, [], ◌∷◌, ◌++◌, length, Ok, Err, Result, slice_index}
-use Rattle.std.specs.List.{AllByRecursion as All}
+use Rattle.std.specs.List.{AllByRecursion}
 use Rattle.sheet_lines.specs.Cuts.{Free}
 use Rattle.sheet_lines.specs.Numbers.{Writes}
 use Rattle.sheet_lines.specs.Texts.{after_commas}
@@ -10,7 +10,7 @@ use Rattle.sheet_lines.specs.declared.fault.Refusal.TheVariants as refusal
 
 -- numbers of at most eight digits
 abbrev pub Short : List ℕ → Type 0
-Short ns = All (λ n. n < 10 ^ 8) ns
+Short ns = AllByRecursion (λ n. n < 10 ^ 8) ns
 
 -- xs, fields each after a comma, write the numbers ns
 abbrev pub Written : List ℕ → List ℕ → Type 0

@@ -1,6 +1,6 @@
 -- Lists of numbers as collections, and their sums. Assumes nothing.
 use Rattle.std.proofs.Common.{◌≡◌, ℕ, ◌+◌, ◌-◌, ◌*◌, ◌≤◌, cond, eqb, ◌⊎◌, List, [], ◌∷◌, ◌++◌, length, sym, refl, ap, ◌∙◌, subst, ap₂, inl, inr, ⊎_elim, arith}
-use Rattle.std.specs.List.{AllByRecursion as All}
+use Rattle.std.specs.List.{AllByRecursion}
 use Rattle.std.proofs.lemmas.List.{nil_from_length}
 use Rattle.std.proofs.ByRecursion.{All-push}
 use Rattle.std.proofs.lemmas.Bool.{cases_eq, cases_lt, eq-eqb, ne_eqb, cond-true, cond-false, cond_both}
@@ -22,16 +22,16 @@ in_append_cases [] ys y i = inr i
 in_append_cases (x ∷ xs) ys y (inl e) = inl (inl e)
 in_append_cases (x ∷ xs) ys y (inr i) = ⊎_elim (λ a. inl (inr a)) inr (in_append_cases xs ys y i)
 
-pub all_in : (P : ℕ → Type 0) (xs : List ℕ) (y : ℕ) → All P xs → In y xs → P y
+pub all_in : (P : ℕ → Type 0) (xs : List ℕ) (y : ℕ) → AllByRecursion P xs → In y xs → P y
 all_in P [] y all i = absurd i
 all_in P (x ∷ xs) y all (inl e) = subst P e all.0
 all_in P (x ∷ xs) y all (inr i) = all_in P xs y all.1 i
 
-pub all_from_in : (P : ℕ → Type 0) (xs : List ℕ) → ((y : ℕ) → In y xs → P y) → All P xs
+pub all_from_in : (P : ℕ → Type 0) (xs : List ℕ) → ((y : ℕ) → In y xs → P y) → AllByRecursion P xs
 all_from_in P [] each = tt
 all_from_in P (x ∷ xs) each = (each x (inl refl), all_from_in P xs (λ y i. each y (inr i)))
 
-pub pairwise_append : (R : ℕ → ℕ → Type 0) (xs : List ℕ) (y : ℕ) → Pairwise R xs → All (λ x. R x y) xs → Pairwise R (xs ++ y ∷ [])
+pub pairwise_append : (R : ℕ → ℕ → Type 0) (xs : List ℕ) (y : ℕ) → Pairwise R xs → AllByRecursion (λ x. R x y) xs → Pairwise R (xs ++ y ∷ [])
 pairwise_append R [] y pairs all = (tt, tt)
 pairwise_append R (x ∷ xs) y pairs all = (All-push (R x) xs y pairs.0 all.0, pairwise_append R xs y pairs.1 all.1)
 
@@ -78,14 +78,14 @@ in_without y z (x ∷ xs) other i = ⊎_elim here (λ ne. there ne (in_without y
     there ne ih = rw (cond-false (eqb x y) xs (x ∷ without y xs) (ne_eqb x y ne)) (⊎_elim inl (λ j. inr (ih j)) i)
 
 -- different numbers, all of them in hs or of value 0, sum to no more than hs
-pub sub_sum : (g : ℕ → ℕ) (hs zs : List ℕ) → Different zs → All (λ z. In z hs ⊎ (g z ≡ 0)) zs → sum_of g zs ≤ sum_of g hs
+pub sub_sum : (g : ℕ → ℕ) (hs zs : List ℕ) → Different zs → AllByRecursion (λ z. In z hs ⊎ (g z ≡ 0)) zs → sum_of g zs ≤ sum_of g hs
 sub_sum g hs [] diff all = omega arith
 sub_sum g hs (z ∷ zs) diff all = ⊎_elim (λ i. found i (sub_sum g (without z hs) zs diff.1 left)) (λ e. none e (sub_sum g hs zs diff.1 all.1)) all.0
   where
     step : (w : ℕ) → In w zs → In w (without z hs) ⊎ (g w ≡ 0)
     step w k = ⊎_elim (λ j. inl (in_without z w hs (λ e. diff.0 (subst (λ v. In v zs) e k)) j)) inr (all_in (λ v. In v hs ⊎ (g v ≡ 0)) zs w all.1 k)
 
-    left : All (λ w. In w (without z hs) ⊎ (g w ≡ 0)) zs
+    left : AllByRecursion (λ w. In w (without z hs) ⊎ (g w ≡ 0)) zs
     left = all_from_in (λ w. In w (without z hs) ⊎ (g w ≡ 0)) zs step
 
     found : In z hs → sum_of g zs ≤ sum_of g (without z hs) → g z + sum_of g zs ≤ sum_of g hs
@@ -98,12 +98,12 @@ sum_over : (f : ℕ → ℕ) (m : ℕ) (zs : List ℕ) → sum_of f zs ≤ lengt
 sum_over f m [] = omega arith
 sum_over f m (z ∷ zs) = omega (arith, sum_over f m zs)
 
-sum_from : (f : ℕ → ℕ) (m : ℕ) (hs : List ℕ) → All (λ h. m ≤ f h) hs → sum_of f hs ≡ length hs * m + sum_of (λ x. f x - m) hs
+sum_from : (f : ℕ → ℕ) (m : ℕ) (hs : List ℕ) → AllByRecursion (λ h. m ≤ f h) hs → sum_of f hs ≡ length hs * m + sum_of (λ x. f x - m) hs
 sum_from f m [] all = omega arith
 sum_from f m (h ∷ hs) all = omega (arith, all.0, sum_from f m hs all.1)
 
 -- where each of hs has m or more and every other number at most m, as many different numbers sum to no more than hs
-pub best_sum : (f : ℕ → ℕ) (m : ℕ) (hs zs : List ℕ) → Different zs → length zs ≡ length hs → All (λ h. m ≤ f h) hs → All (λ z. In z hs ⊎ (f z ≤ m)) zs → sum_of f zs ≤ sum_of f hs
+pub best_sum : (f : ℕ → ℕ) (m : ℕ) (hs zs : List ℕ) → Different zs → length zs ≡ length hs → AllByRecursion (λ h. m ≤ f h) hs → AllByRecursion (λ z. In z hs ⊎ (f z ≤ m)) zs → sum_of f zs ≤ sum_of f hs
 best_sum f m hs zs diff many high rest =
     let over = sum_over f m zs in
     let from = sum_from f m hs high in
@@ -159,7 +159,7 @@ same_append_right xs ys zs same f = omega (arith, sum_of_append f xs zs, sum_of_
 pub same_in : (xs ys : List ℕ) → Same xs ys → (y : ℕ) → In y xs → In y ys
 same_in xs ys same y i = count_in ys y (omega (arith, in_count xs y i, same (λ x. cond (eqb x y) 1 0)))
 
-pub same_all : (P : ℕ → Type 0) (xs ys : List ℕ) → Same xs ys → All P xs → All P ys
+pub same_all : (P : ℕ → Type 0) (xs ys : List ℕ) → Same xs ys → AllByRecursion P xs → AllByRecursion P ys
 same_all P xs ys same all = all_from_in P ys (λ y i. all_in P xs y all (same_in ys xs (same_sym xs ys same) y i))
 
 pub same_different : (xs ys : List ℕ) → Same xs ys → Different xs → Different ys
