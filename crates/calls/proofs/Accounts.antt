@@ -1,23 +1,20 @@
 -- What the accounts of a listing say: where a state is, and what the sums come to. Assumes nothing.
-use Rattle.std.proofs.Common.{◌≡◌, ℕ, zero, suc, ◌+◌, ◌-◌, ◌*◌, ◌/◌, ◌%◌, ◌^◌, ◌<◌, ◌≤◌, Bool, true, false, cond, not, eqb, ◌⊎◌, List, [], ◌∷◌, ◌++◌, length, get_or, sym, refl, ap, ◌∙◌, subst, ap₂, inl, inr, ⊎_elim, lt_of_lt_of_le, mod-eq_of_lt, arith, pow_mono, ne_eqb, eqb-true}
-use borrow.Author.Tests.{clash}
-use Rattle.std.specs.List.{AllByRecursion}
+use Rattle.std.proofs.Common.{◌≡◌, ℕ, zero, suc, ◌+◌, ◌^◌, ◌≤◌, Bool, true, false, cond, eqb, ◌⊎◌, List, [], ◌∷◌, sym, refl, ap, ◌∙◌, subst, inl, inr, ⊎_elim, lt_of_lt_of_le, mod-eq_of_lt, arith, pow_mono, ne_eqb, eqb-true}
 use Rattle.std.proofs.lemmas.Bool.{cond-true, cond-false, cases_lt}
 use Rattle.states.specs.Lists.{In, Different}
 use Rattle.states.specs.Masses.{total, mass}
 use Rattle.states.specs.Sets.{Within}
 use Rattle.states.specs.Steps.{agreeing_masses, top}
-use Rattle.states.specs.Sums.{sum_below, sum_of}
+use Rattle.states.specs.Sums.{sum_of}
 use Rattle.states.specs.Trees.{in_cone, in_tree, cone_sum, tree_sum}
-use Rattle.states.proofs.Indicators.{only, only_all, only_tree, only_cone, some_member, member_le, counted}
+use Rattle.states.proofs.Indicators.{only, only_all, only_tree, only_cone, some_member, counted}
 use Rattle.states.proofs.Lists.{all_in, sum_of_same, sum_of_le, count_different}
 use Rattle.states.proofs.Masses.{conserved}
 use Rattle.states.proofs.Steps.{left_is, top_le}
-use Rattle.states.proofs.Sums.{sum_same, sum_nothing, sum_grows}
-use Rattle.states.proofs.Trees.{cone_contains, in_own_cone, in_own_tree}
-use Rattle.structures.specs.Reliability.{working_mass, failing_mass, working_masses, failing_masses}
+use Rattle.states.proofs.Sums.{sum_same, sum_nothing}
+use Rattle.states.proofs.Trees.{cone_contains, in_own_tree}
+use Rattle.structures.specs.Reliability.{working_mass, failing_mass, failing_masses}
 use Rattle.structures.proofs.Reliability.{both_sums}
-use Rattle.calls.specs.Law.{Covered}
 use Rattle.calls.specs.Memories.{Memory}
 use Rattle.calls.specs.Stations.{Station, parts, up_in, mass_in, share_in, OnSheet, reliability}
 use Rattle.calls.proofs.Invariant.{Lawful, Kept, taken}

@@ -1,17 +1,15 @@
 -- Where the ranking is by mass, the states handed out are the heaviest. Assumes nothing.
-use Rattle.std.proofs.Common.{◌≡◌, ℕ, ◌^◌, ◌<◌, ◌≤◌, Bool, true, false, not, ◌⊎◌, List, [], ◌∷◌, ◌++◌, length, sym, refl, ap, ◌∙◌, subst, inl, inr, ⊎_elim, arith, ltb-false}
-use borrow.Author.Tests.{clash}
+use Rattle.std.proofs.Common.{◌≡◌, ℕ, ◌≤◌, false, not, ◌⊎◌, List, [], ◌∷◌, ◌++◌, length, sym, refl, ap, ◌∙◌, subst, inl, inr, ⊎_elim, arith, ltb-false}
 use Rattle.std.specs.List.{AllByRecursion}
 use Rattle.std.proofs.lemmas.List.{nil_from_length}
 use Rattle.std.proofs.lemmas.Bool.{cases_eq, cases_Bool, or_cases, and_parts, not-true}
 use Rattle.states.specs.Lists.{In, Different, Pairwise}
-use Rattle.states.specs.Sets.{Within}
 use Rattle.states.specs.Sums.{sum_of}
 use Rattle.states.proofs.Lists.{in_append_left, in_append_right, in_append_cases, all_in, all_from_in, best_sum}
 use Rattle.rankings.specs.Exact.{heavier}
 use Rattle.rankings.specs.Orders.{ahead, OneWay, StrictOrder}
 use Rattle.calls.specs.Law.{Covered, ProperlyCovered}
-use Rattle.calls.specs.Stations.{Station, parts, up_in, mass_in, Ahead, OnSheet}
+use Rattle.calls.specs.Stations.{Station, parts, mass_in, Ahead, OnSheet}
 use Rattle.calls.proofs.Endings.{Ended, empty, last, ended}
 
 -- whatever is ahead of the last state was handed out before it, or contains a failing one that was

@@ -1,28 +1,21 @@
 -- Figures never widen, the first calls are never full, and a listing comes to its end. Assumes nothing.
-use Rattle.std.proofs.Common.{◌≡◌, ℕ, zero, suc, ◌+◌, ◌-◌, ◌*◌, ◌/◌, ◌^◌, ◌<◌, ◌≤◌, Bool, true, false, cond, ◌&&◌, ltb, List, [], ◌∷◌, ◌++◌, length, sym, refl, ap, ◌∙◌, subst, inl, inr, arith, lit<, lit≤, pow_pos, le-ltb}
+use Rattle.std.proofs.Common.{◌≡◌, ℕ, suc, ◌<◌, ◌≤◌, Bool, true, false, cond, ◌&&◌, ltb, List, [], ◌∷◌, ◌++◌, length, sym, refl, ap, ◌∙◌, subst, inl, inr, arith, lit<, lit≤, pow_pos, le-ltb}
 use borrow.Author.Tests.{clash}
 use Rattle.std.proofs.lemmas.List.{length-append, length_push, append-nil, append_assoc}
 use Rattle.std.proofs.lemmas.Bool.{cond-false, and_left, or_parts}
-use Rattle.std.specs.List.{AllByRecursion}
 use Rattle.states.specs.Lists.{In}
-use Rattle.states.specs.Masses.{total}
 use Rattle.states.specs.Sets.{with_part}
 use Rattle.states.specs.Steps.{low, top, add_step, move_step}
-use Rattle.states.specs.Sums.{sum_of}
-use Rattle.states.specs.Trees.{tree_sum}
 use Rattle.states.proofs.Lists.{same_length}
-use Rattle.states.proofs.Trees.{tree_step}
 use Rattle.states.proofs.Steps.{top_is}
-use Rattle.calls.specs.Calls.{Runs, ends_here, goes_on, Said, Step, next_step, run_step, refused_step, figures_step, ran_full, is_full, is_finished, says_full, says_finished}
+use Rattle.calls.specs.Calls.{Runs, ends_here, goes_on, Said, Step, next_step, run_step, refused_step, figures_step, ran_full, is_full, says_full, says_finished}
 use Rattle.calls.specs.Handing.{NextAnswer, handed_out, finished, full, next_states, Foremost, HandsOut, Next, handed_by}
-use Rattle.calls.specs.Histories.{Moment, Led, none, more, handed_in, finished_in, full_in, one_if_next, nexts_in, kept_after}
+use Rattle.calls.specs.Histories.{Moment, Led, none, more, handed_in, finished_in, full_in, one_if_next, nexts_in}
 use Rattle.calls.specs.Memories.{Memory, lower, upper}
-use Rattle.calls.specs.Stations.{Station, parts, up_in, OnSheet}
+use Rattle.calls.specs.Stations.{Station, parts, up_in}
 use Rattle.calls.specs.declared.answers.Call.{Call}
 use Rattle.calls.specs.declared.answers.Ending.{Ending}
 use Rattle.calls.specs.declared.answers.Ending.TheVariants as ends
-use Rattle.calls.proofs.Invariant.{Lawful, Kept}
-use Rattle.calls.proofs.Lawfully.{ones_below, taken_each}
 use Rattle.calls.proofs.Histories.{handed_push, finished_push, full_push, nexts_push}
 
 -- sums only grow

@@ -1,5 +1,5 @@
 -- The law holds of every listing, whatever calls were made. Assumes nothing.
-use Rattle.std.proofs.Common.{◌≡◌, ℕ, ◌^◌, ◌<◌, Bool, true, false, List, [], ◌∷◌, ◌++◌, length, sym, refl, ap, ◌∙◌, ⊎_elim, arith}
+use Rattle.std.proofs.Common.{◌≡◌, ◌^◌, ◌<◌, true, false, List, length, ap, ⊎_elim, arith}
 use Rattle.std.proofs.lemmas.Bool.{cases_Bool}
 use Rattle.calls.specs.Histories.{Moment, Led, handed_in, finished_in, full_in, nexts_in}
 use Rattle.calls.specs.Law.{HistoryLaw, ListingLaw}

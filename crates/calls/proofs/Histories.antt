@@ -1,11 +1,11 @@
 -- Histories one call longer, and cut at a call. Assumes nothing.
-use Rattle.std.proofs.Common.{◌≡◌, ℕ, ◌+◌, Bool, true, false, ◌||◌, List, [], ◌∷◌, ◌++◌, sym, refl, ap, ◌∙◌, subst, ap₂, subst₂, arith}
+use Rattle.std.proofs.Common.{◌≡◌, ℕ, ◌+◌, Bool, true, false, ◌||◌, List, [], ◌∷◌, ◌++◌, sym, refl, ap, ◌∙◌, subst, subst₂, arith}
 use Rattle.std.proofs.lemmas.List.{append-nil, append_assoc, same_from_push}
 use Rattle.calls.specs.Calls.{Step, says_finished, says_full}
 use Rattle.calls.specs.Histories.{Moment, Led, none, more, handed_in, finished_in, full_in, one_if_next, nexts_in, kept_from, kept_after}
 use Rattle.calls.specs.Memories.{Memory, opened}
 use Rattle.calls.specs.Stations.{Station}
-use Rattle.calls.proofs.Endings.{Ended, empty, last, ended, no_last}
+use Rattle.calls.proofs.Endings.{Ended, empty, last, ended}
 
 pub handed_push : (ms : List Moment) (m : Moment) → handed_in (ms ++ m ∷ []) ≡ handed_in ms ++ m.handed
 handed_push [] m = append-nil m.handed

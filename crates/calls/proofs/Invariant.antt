@@ -1,22 +1,21 @@
 -- What a listing keeps true from call to call. Assumes nothing.
-use Rattle.std.proofs.Common.{◌≡◌, ℕ, zero, suc, ◌+◌, ◌*◌, ◌^◌, ◌<◌, ◌≤◌, Bool, true, false, cond, ◌⊎◌, List, [], ◌∷◌, ◌++◌, length, get_or, sym, refl, ap, ◌∙◌, subst, ap₂, inl, inr, ⊎_elim, arith, pow_pos}
+use Rattle.std.proofs.Common.{◌≡◌, ℕ, ◌+◌, ◌^◌, ◌<◌, ◌≤◌, Bool, true, false, cond, ◌⊎◌, List, [], ◌∷◌, ◌++◌, length, get_or, sym, refl, ap, subst, inl, inr, ⊎_elim, arith, pow_pos}
 use Rattle.std.specs.List.{AllByRecursion}
 use Rattle.std.proofs.ByRecursion.{All-push}
 use Rattle.std.proofs.lemmas.List.{length_push}
 use Rattle.std.proofs.lemmas.Bool.{cond-true}
-use Rattle.states.specs.Lists.{In, Same, Pairwise}
+use Rattle.states.specs.Lists.{In, Pairwise}
 use Rattle.states.specs.Sets.{Within}
 use Rattle.states.specs.Steps.{add_step, move_step, Leads as StepsTo}
 use Rattle.states.specs.Sums.{sum_below, sum_of}
 use Rattle.states.specs.Trees.{in_cone, in_tree, cone_sum, tree_sum}
-use Rattle.states.proofs.Indicators.{only, only_itself, only_all, only_tree, only_cone, some_member, member_le, counted}
-use Rattle.states.proofs.Lists.{in_append_left, in_append_right, in_append_cases, all_in, all_from_in, pairwise_append, sum_of_append, same_in}
-use Rattle.states.proofs.Trees.{tree_step, cone_step, whole_tree, in_own_cone, in_own_tree, cone_contains, steps_within}
+use Rattle.states.proofs.Indicators.{only, only_itself, only_all, only_tree, only_cone, member_le}
+use Rattle.states.proofs.Lists.{in_append_right, in_append_cases, all_in, all_from_in, pairwise_append, sum_of_append, same_in}
+use Rattle.states.proofs.Trees.{tree_step, cone_step, whole_tree, in_own_cone, in_own_tree, steps_within}
 use Rattle.rankings.specs.Orders.{OneWay, Through, AddFollows, MoveFollows, ahead, StrictOrder}
 use Rattle.rankings.proofs.Orders.{strict_order}
-use Rattle.rankings.proofs.Trees.{step_behind, root_first}
-use Rattle.calls.specs.Handing.{next_states, Foremost, HandsOut}
-use Rattle.calls.specs.Law.{Covered}
+use Rattle.rankings.proofs.Trees.{step_behind}
+use Rattle.calls.specs.Handing.{next_states, HandsOut}
 use Rattle.calls.specs.Memories.{Memory, opened}
 use Rattle.calls.specs.Stations.{Station, parts, up_in, mass_in, share_in, Ahead, OnSheet}
 

@@ -1,12 +1,11 @@
 -- The law of listings, from what a listing keeps. Assumes nothing.
-use Rattle.std.proofs.Common.{◌≡◌, ℕ, zero, suc, ◌+◌, ◌-◌, ◌*◌, ◌/◌, ◌^◌, ◌<◌, ◌≤◌, Bool, true, false, cond, ◌||◌, ◌⊎◌, List, [], ◌∷◌, ◌++◌, length, sym, refl, ap, ◌∙◌, subst, ap₂, subst₂, inl, inr, ⊎_elim, mul-le-mul_left, arith}
+use Rattle.std.proofs.Common.{◌≡◌, ℕ, zero, suc, ◌-◌, ◌*◌, ◌/◌, ◌^◌, ◌≤◌, Bool, true, false, cond, ◌||◌, ◌⊎◌, List, [], ◌∷◌, ◌++◌, length, sym, refl, ap, ◌∙◌, subst, subst₂, inl, inr, ⊎_elim, arith}
 use borrow.Author.Tests.{clash}
 use Rattle.std.specs.List.{AllByRecursion}
 use Rattle.std.proofs.lemmas.List.{append-nil, append_assoc, same_from_push}
 use Rattle.std.proofs.lemmas.Bool.{cases_eq, or_cases}
 use Rattle.states.specs.Lists.{In}
 use Rattle.states.specs.Masses.{total}
-use Rattle.states.specs.Sets.{Within}
 use Rattle.states.specs.Sums.{sum_below, sum_of}
 use Rattle.states.specs.Trees.{in_tree, cone_sum}
 use Rattle.states.proofs.Lists.{all_in, sum_of_le}
@@ -18,12 +17,12 @@ use Rattle.calls.specs.Calls.{Runs, ends_here, goes_on, Said, Step, next_step, r
 use Rattle.calls.specs.Handing.{NextAnswer, handed_out, finished, full, Foremost, HandsOut, Next, handed_by}
 use Rattle.calls.specs.Histories.{Moment, Led, none, more, handed_in, finished_in}
 use Rattle.calls.specs.Law.{Covered, OrderLaw, FiguresLaw, Heaviest}
-use Rattle.calls.specs.Memories.{Memory, opened, lower, upper, rounded_up}
-use Rattle.calls.specs.Stations.{Station, parts, up_in, mass_in, Ahead, OnSheet, reliability, MinimalCut}
+use Rattle.calls.specs.Memories.{Memory, rounded_up}
+use Rattle.calls.specs.Stations.{Station, parts, up_in, Ahead, OnSheet, reliability, MinimalCut}
 use Rattle.calls.specs.declared.answers.Call.{Call}
 use Rattle.calls.specs.declared.answers.Ending.{Ending}
 use Rattle.calls.specs.declared.answers.Ending.TheVariants as ends
-use Rattle.calls.proofs.Accounts.{fails_above, Where, handed, covered, hangs, find, all_masses, up_bound, down_bound, up_exact, down_exact}
+use Rattle.calls.proofs.Accounts.{fails_above, Where, handed, covered, hangs, find, up_bound, down_bound, up_exact, down_exact}
 use Rattle.calls.proofs.Best.{NonePassedOver, heaviest}
 use Rattle.calls.proofs.Endings.{no_last}
 use Rattle.calls.proofs.Histories.{handed_push, finished_push}

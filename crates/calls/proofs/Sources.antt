@@ -1,12 +1,12 @@
 -- A sheet, a structure and a ranking that keep their laws make a lawful station. Assumes nothing.
-use Rattle.std.proofs.Common.{◌≡◌, ℕ, ◌^◌, ◌<◌, ◌≤◌, Bool, true, sym, subst, arith}
-use Rattle.sheet.specs.Parts.{figures_of, count_of}
+use Rattle.std.proofs.Common.{◌≡◌, ℕ, ◌^◌, ◌<◌, Bool, true, sym, subst, arith}
+use Rattle.sheet.specs.Parts.{count_of}
 use Rattle.sheet.specs.declared.sealed.Sheet.{Sheet}
 use Rattle.states.specs.Sets.{Within}
 use Rattle.states.proofs.Masses.{figures_fine}
 use Rattle.states.proofs.Sheets.{few_parts, count_is}
 use Rattle.rankings.specs.Orders.{OneWay, Through, AddFollows, MoveFollows}
-use Rattle.calls.specs.Stations.{Station, station}
+use Rattle.calls.specs.Stations.{station}
 use Rattle.calls.proofs.Invariant.{Lawful}
 
 pub lawful : (s : Sheet) (works : ℕ → Bool) (outranks : ℕ → ℕ → Bool)

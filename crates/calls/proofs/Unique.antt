@@ -1,5 +1,5 @@
 -- A list of calls has one sequence of answers, and leaves one set of figures, however the waiting states are stored. Assumes nothing.
-use Rattle.std.proofs.Common.{◌≡◌, ℕ, suc, ◌+◌, ◌*◌, ◌^◌, ◌<◌, ◌≤◌, Bool, true, false, cond, ◌⊎◌, List, [], ◌∷◌, ◌++◌, map, length, sym, refl, ap, ◌∙◌, subst, ap₂, subst₂, inl, inr, ⊎_elim, arith}
+use Rattle.std.proofs.Common.{◌≡◌, ℕ, ◌+◌, ◌<◌, ◌≤◌, cond, List, [], ◌∷◌, ◌++◌, map, length, sym, refl, ap, ◌∙◌, subst, ap₂, subst₂, ⊎_elim, arith}
 use Rattle.std.proofs.lemmas.List.{same_from_push, map_push}
 use Rattle.states.specs.Lists.{In, Same}
 use Rattle.states.specs.Sums.{sum_of}
@@ -13,7 +13,7 @@ use Rattle.calls.specs.declared.answers.Ending.TheVariants as ends
 use Rattle.calls.specs.Handing.{NextAnswer, handed_out, finished, full, next_states, Foremost, HandsOut, Next, handed_by}
 use Rattle.calls.specs.Histories.{Moment, Led, none, more, calls_in, handed_in, seen}
 use Rattle.calls.specs.Memories.{Memory, opened, lower, upper, figures_at}
-use Rattle.calls.specs.Stations.{Station, parts, up_in, verdict_in, mass_in, share_in, Ahead, OnSheet}
+use Rattle.calls.specs.Stations.{Station, parts, up_in, verdict_in, mass_in, share_in, OnSheet}
 use Rattle.calls.specs.declared.answers.Verdict.{Verdict}
 use Rattle.calls.proofs.Endings.{no_last}
 use Rattle.calls.proofs.Invariant.{Lawful, Kept, kept_next}

@@ -1,5 +1,5 @@
 -- What one call of next does. Assumes nothing.
-use Rattle.std.specs.Prelude.{◌≡◌, ℕ, suc, ◌+◌, ◌<◌, ◌≤◌, Bool, true, false, cond, ◌⊎◌, List, [], ◌∷◌, ◌++◌, length}
+use Rattle.std.specs.Prelude.{◌≡◌, ℕ, suc, ◌+◌, ◌<◌, ◌≤◌, cond, ◌⊎◌, List, [], ◌∷◌, ◌++◌, length}
 use Rattle.states.specs.Lists.{In, Same}
 use Rattle.states.specs.Steps.{add_step, move_step}
 use Rattle.calls.specs.Memories.{Memory}

@@ -1,5 +1,5 @@
 -- Lists of calls made on a listing since it was opened. Assumes nothing.
-use Rattle.std.specs.Prelude.{ℕ, ◌+◌, Bool, true, false, ◌||◌, List, [], ◌∷◌, ◌++◌, map}
+use Rattle.std.specs.Prelude.{ℕ, ◌+◌, Bool, false, ◌||◌, List, [], ◌∷◌, ◌++◌, map}
 use Rattle.calls.specs.Calls.{Said, Step, says_finished, says_full}
 use Rattle.calls.specs.Memories.{Memory, opened, figures_at}
 use Rattle.calls.specs.Stations.{Station}

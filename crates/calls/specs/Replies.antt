@@ -1,5 +1,5 @@
 -- What each answer of the code stands for: its number or its values. Assumes nothing.
-use Rattle.std.specs.Prelude.{ℕ, Ok, Err, Result}
+use Rattle.std.specs.Prelude.{Ok, Err, Result}
 use Rattle.calls.specs.Handing.{NextAnswer, handed_out, finished, full}
 use Rattle.calls.specs.Calls.{Said, next_said, run_said, run_refused, figures_said}
 use Rattle.calls.specs.declared.answers.Answer.{Answer}

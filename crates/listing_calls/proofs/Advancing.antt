@@ -1,5 +1,5 @@
 -- What next does to a listing whose foremost entry is e, in the words of its code. Assumes nothing.
-use Rattle.std.proofs.Common.{◌≡◌, ℕ, suc, ◌+◌, ◌-◌, ◌^◌, ◌<◌, ◌≤◌, Bool, true, false, cond, List, [], ◌∷◌, ◌++◌, map, length, get_or, take, sym, refl, ap, ◌∙◌, subst, inl, mod-eq_of_lt, arith}
+use Rattle.std.proofs.Common.{◌≡◌, ℕ, ◌+◌, ◌-◌, ◌^◌, ◌<◌, ◌≤◌, Bool, true, false, cond, List, [], ◌∷◌, ◌++◌, map, length, get_or, take, sym, refl, ap, ◌∙◌, subst, mod-eq_of_lt, arith}
 use Rattle.std.proofs.lemmas.List.{take_more, take_all, get_or-map, length-map, length-append, map-append}
 use Rattle.sheet.specs.Parts.{figures_of, count_of}
 use Rattle.sheet.specs.declared.sealed.Sheet.{Sheet}
@@ -8,7 +8,6 @@ use Rattle.states.specs.Masses.{total, mass}
 use Rattle.states.specs.Steps.{add_step, move_step, share}
 use Rattle.states.specs.Sums.{sum_of}
 use Rattle.states.specs.Trees.{tree_sum}
-use Rattle.states.proofs.Lists.{in_append_right}
 use Rattle.states.proofs.Masses.{figures_fine, mass_le}
 use Rattle.states.proofs.Sheets.{count_is}
 use Rattle.rankings.specs.Orders.{ahead}

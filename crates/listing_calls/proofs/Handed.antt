@@ -1,27 +1,25 @@
 -- What handing out the foremost entry does: to the sums a listing keeps, to the order of what waits, and to its history. Assumes nothing.
-use Rattle.std.proofs.Common.{◌≡◌, ℕ, suc, ◌+◌, ◌^◌, ◌<◌, ◌≤◌, Bool, true, false, cond, ◌&&◌, ltb, ◌⊎◌, List, [], ◌∷◌, ◌++◌, map, length, sym, refl, ap, ◌∙◌, subst, ap₂, inl, inr, ⊎_elim, mod-eq_of_lt, arith}
-use Rattle.std.specs.List.{AllByRecursion}
-use Rattle.std.proofs.lemmas.List.{map-append, same_from_push, length-append, length-map}
-use Rattle.std.proofs.lemmas.Bool.{and_parts}
+use Rattle.std.proofs.Common.{◌≡◌, ℕ, suc, ◌+◌, ◌^◌, ◌<◌, ◌≤◌, Bool, true, false, cond, ◌⊎◌, List, [], ◌∷◌, ◌++◌, map, length, sym, refl, ap, ◌∙◌, subst, inl, inr, ⊎_elim, mod-eq_of_lt, arith}
+use Rattle.std.proofs.lemmas.List.{map-append, same_from_push}
 use Rattle.states.specs.Lists.{In, Same, Different, Pairwise}
-use Rattle.states.specs.Masses.{total, mass}
-use Rattle.states.specs.Steps.{add_step, move_step, share, top, agreeing_masses, Leads}
+use Rattle.states.specs.Masses.{mass}
+use Rattle.states.specs.Steps.{add_step, move_step, share, top, agreeing_masses}
 use Rattle.states.specs.Sums.{sum_of}
 use Rattle.states.specs.Trees.{cone_sum, tree_sum}
 use Rattle.states.proofs.Lists.{in_append_left, in_append_right, in_append_cases, sum_of_append, same_different, same_length, different_apart, different_rest}
 use Rattle.states.proofs.Masses.{Figures}
 use Rattle.states.proofs.Steps.{left_is, top_le}
 use Rattle.states.proofs.Trees.{tree_step, cone_step, steps_within}
-use Rattle.rankings.specs.Orders.{ahead, StrictOrder}
+use Rattle.rankings.specs.Orders.{ahead}
 use Rattle.rankings.proofs.Orders.{strict_order}
 use Rattle.calls.specs.Handing.{next_states, Foremost, HandsOut}
 use Rattle.calls.specs.Histories.{Moment, Led, handed_in}
 use Rattle.calls.specs.Memories.{Memory}
 use Rattle.calls.specs.Stations.{Station, parts, up_in, mass_in, share_in, Ahead, OnSheet}
 use Rattle.calls.proofs.Accounts.{waiting_different}
-use Rattle.calls.proofs.Invariant.{Lawful, Kept, kept_next, next_step}
+use Rattle.calls.proofs.Invariant.{Lawful, kept_next}
 use Rattle.calls.proofs.Lawfully.{lasts}
-use Rattle.listing_calls.specs.Waiters.{states_of, masses_of, all_below, Keyed, Ready, Began}
+use Rattle.listing_calls.specs.Waiters.{states_of, masses_of, all_below, Ready, Began}
 use Rattle.listing_calls.specs.declared.waiting.Waiting.{Waiting}
 use Rattle.listing_calls.proofs.Insertion.{below_all, all_below_from}
 use Rattle.listing_calls.proofs.Sorting.{pairwise_front, pairwise_last}

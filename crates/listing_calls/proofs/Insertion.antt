@@ -1,16 +1,15 @@
 -- An entry put at its place keeps what waits in order. Assumes nothing.
-use Rattle.std.proofs.Common.{◌≡◌, ℕ, zero, suc, ◌+◌, ◌-◌, ◌^◌, ◌<◌, ◌≤◌, Bool, true, false, not, ◌&&◌, ltb, ◌⊎◌, List, [], ◌∷◌, ◌++◌, map, length, get_or, take, drop, sym, refl, ap, ◌∙◌, subst, ap₂, inl, inr, ⊎_elim, arith, take-append-drop, ltb-true, lt-ltb}
-use Rattle.std.specs.List.{insert, AllByRecursion}
+use Rattle.std.proofs.Common.{◌≡◌, ℕ, zero, suc, ◌+◌, ◌^◌, ◌<◌, ◌≤◌, Bool, true, not, ltb, ◌⊎◌, List, [], ◌∷◌, ◌++◌, map, length, get_or, take, drop, sym, refl, ap, ◌∙◌, subst, ap₂, inl, inr, ⊎_elim, arith, take-append-drop, ltb-true, lt-ltb}
+use Rattle.std.specs.List.{insert}
 use Rattle.std.proofs.lemmas.List.{map-append, take-map, drop-map, length-map, take_more, drop_more, drop_all}
 use Rattle.std.proofs.lemmas.Bool.{and_parts, and_from, cases_lt}
-use Rattle.states.specs.Lists.{In, Pairwise, Same}
+use Rattle.states.specs.Lists.{In, Pairwise}
 use Rattle.states.specs.Masses.{mass}
 use Rattle.states.specs.Sums.{sum_of}
-use Rattle.states.proofs.Lists.{in_append_left, in_append_right, in_append_cases, all_in, all_from_in}
+use Rattle.states.proofs.Lists.{in_append_left, in_append_right, in_append_cases, all_from_in}
 use Rattle.rankings.specs.Orders.{StrictOrder}
-use Rattle.listing_calls.specs.Waiters.{states_of, masses_of, all_below, Keyed, Comparable, Between, Placed, Ready, Began}
+use Rattle.listing_calls.specs.Waiters.{states_of, masses_of, all_below, Between, Placed, Began}
 use Rattle.listing_calls.specs.declared.waiting.Waiting.{Waiting}
-use Rattle.listing_calls.proofs.Entries.{below_at}
 use Rattle.listing_calls.proofs.Sorting.{pairwise_insert, across, same_inserted}
 
 map_inserted : {X Y : Type 0} (f : X → Y) (xs : List X) (i : ℕ) (x : X) → map f (insert xs i x) ≡ insert (map f xs) i (f x)

@@ -1,11 +1,11 @@
 -- What a listing holds as it is opened. Assumes nothing.
-use Rattle.std.proofs.Common.{◌≡◌, ℕ, ◌+◌, ◌^◌, ◌≤◌, Bool, true, ltb, List, [], ◌∷◌, ◌++◌, map, length, sym, refl, ap, ◌∙◌, subst, arith, pow_pos, lt-ltb}
+use Rattle.std.proofs.Common.{◌≡◌, ℕ, ◌+◌, ◌^◌, ◌≤◌, Bool, true, List, [], ◌∷◌, map, sym, refl, ap, ◌∙◌, subst, arith, pow_pos, lt-ltb}
 use Rattle.std.proofs.lemmas.Bool.{and_from}
 use Rattle.sheet.specs.Parts.{figures_of, count_of}
 use Rattle.sheet.specs.declared.sealed.Sheet.{Sheet}
 use Rattle.states.specs.Lists.{In, Same}
 use Rattle.states.specs.Masses.{total, mass}
-use Rattle.states.specs.Sums.{sum_of, sum_below}
+use Rattle.states.specs.Sums.{sum_of}
 use Rattle.states.specs.Trees.{tree_sum}
 use Rattle.states.proofs.Masses.{all_masses}
 use Rattle.states.proofs.Trees.{whole_tree}

@@ -1,9 +1,9 @@
 -- A run, turn by turn. Assumes nothing.
-use Rattle.std.proofs.Common.{◌≡◌, ℕ, suc, ◌+◌, ◌*◌, ◌^◌, ◌<◌, ◌≤◌, Bool, true, false, cond, eqb, leb, List, [], ◌∷◌, ◌++◌, length, Some, None, Ok, Err, Option, sym, refl, ap, ◌∙◌, subst, subst₂, arith, eqb-true, leb-false, leb-true, MatchOption}
-use borrow.Author.Tests.{eqb-false, clash}
+use Rattle.std.proofs.Common.{◌≡◌, ℕ, suc, ◌+◌, ◌*◌, ◌^◌, ◌≤◌, Bool, true, false, cond, eqb, leb, List, [], ◌∷◌, ◌++◌, length, Some, None, Ok, sym, refl, ap, ◌∙◌, subst, subst₂, arith, eqb-true, leb-false, leb-true, MatchOption}
+use borrow.Author.Tests.{eqb-false}
 use Rattle.std.proofs.lemmas.List.{append-nil, append_assoc, length_push}
 use Rattle.sheet.specs.declared.sealed.Sheet.{Sheet}
-use Rattle.calls.specs.Calls.{Reached, Goes_on, Ends, Runs, ends_here, goes_on, next_said, next_step}
+use Rattle.calls.specs.Calls.{Goes_on, Ends, Runs, ends_here, goes_on, next_said, next_step}
 use Rattle.calls.specs.Handing.{Next, handed_out}
 use Rattle.calls.specs.Histories.{Moment, moment, Led, more}
 use Rattle.calls.specs.Memories.{Memory}
@@ -18,6 +18,8 @@ use Rattle.calls.specs.declared.answers.Ran.{Ran}
 use Rattle.listing_calls.specs.Listings.{memory_of, station_of, SameStation, LeftBy, Advanced}
 use Rattle.listing_calls.specs.declared.listing.Listing.{Listing}
 use Rattle.listing_calls.proofs.Calling.{station_same}
+use Rattle.structures.specs.declared.structure.Structure.{Ghosts as StructureGhosts}
+use Rattle.rankings.specs.declared.ranking.Ranking.{Ghosts as RankingGhosts}
 
 -- how a run ends, from its three tests
 pub ended_so : (w : Station) (target budget count : ℕ) (l : Memory) (reached finished spent : Bool) → reached ≡ leb (target * 10 ^ 12) (l.up + l.down)
@@ -35,18 +37,18 @@ ended_so w target budget count l false false false r e n s few = record {
 }
 
 -- a run at l has handed out count states and come to l₁: what it does from there on gives what it does from l on
-pub record SoFar {S R K : Type 0} (works : S → ℕ → Bool) (outranks : R → Sheet → ℕ → ℕ → Bool) (keyed : R → Sheet → ℕ → K) (target budget count : ℕ) (l l₁ : Listing S R K) : Type 0 where
+pub record SoFar {S R K : Type 0} {sg : StructureGhosts S} {rg : RankingGhosts R K} (works : S → ℕ → Bool) (outranks : R → Sheet → ℕ → ℕ → Bool) (keyed : R → Sheet → ℕ → K) (target budget count : ℕ) (l l₁ : Listing S R K sg rg) : Type 0 where
   pub out : List ℕ
   pub many : length out ≡ count
   pub moments : List Moment
   pub left : LeftBy works outranks keyed moments l₁
   pub rest : {e : Ending} {ys : List ℕ} {m : Memory} → Runs (station_of works outranks l) target budget count (memory_of l₁) e ys m → Runs (station_of works outranks l) target budget 0 (memory_of l) e (out ++ ys) m
 
-module _ {S R K : Type 0} (works : S → ℕ → Bool) (outranks : R → Sheet → ℕ → ℕ → Bool) (keyed : R → Sheet → ℕ → K) (target budget : ℕ) (l : Listing S R K) where
+module _ {S R K : Type 0} {sg : StructureGhosts S} {rg : RankingGhosts R K} (works : S → ℕ → Bool) (outranks : R → Sheet → ℕ → ℕ → Bool) (keyed : R → Sheet → ℕ → K) (target budget : ℕ) (l : Listing S R K sg rg) where
   pub begins : (ms : List Moment) → LeftBy works outranks keyed ms l → SoFar works outranks keyed target budget 0 l l
   begins ms left = record { out = []; many = refl; moments = ms; left = left; rest = λ r. r }
 
-  module _ (count : ℕ) (l₁ : Listing S R K) (same : SameStation l l₁) (so : SoFar works outranks keyed target budget count l l₁) where
+  module _ (count : ℕ) (l₁ : Listing S R K sg rg) (same : SameStation l l₁) (so : SoFar works outranks keyed target budget count l l₁) where
     here : station_of works outranks l₁ ≡ station_of works outranks l
     here = sym (station_same works outranks keyed l l₁ same)
 
@@ -58,7 +60,7 @@ module _ {S R K : Type 0} (works : S → ℕ → Bool) (outranks : R → Sheet �
         (so.out, so.many, subst₂ (λ xs k. Runs (station_of works outranks l) target budget 0 (memory_of l) e xs k) (append-nil so.out) (sym same_memory) runs)
 
     -- or goes on by one state
-    pub goes_by : (l₂ : Listing S R K) → SameStation l₁ l₂ → Goes_on target budget count (memory_of l₁) → (a : Answer) → Advanced works outranks keyed (next_answer (Ok a)) l₁ l₂
+    pub goes_by : (l₂ : Listing S R K sg rg) → SameStation l₁ l₂ → Goes_on target budget count (memory_of l₁) → (a : Answer) → Advanced works outranks keyed (next_answer (Ok a)) l₁ l₂
         → SoFar works outranks keyed target budget (count + 1) l l₂
     goes_by l₂ same₂ goes (answer.Handed state v) advanced =
         let done = advanced so.moments so.left in

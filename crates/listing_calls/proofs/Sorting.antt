@@ -1,10 +1,10 @@
 -- Waiting states kept in order, the foremost last. Assumes nothing.
-use Rattle.std.proofs.Common.{◌≡◌, ℕ, zero, suc, ◌+◌, ◌^◌, ◌<◌, ◌≤◌, ◌⊎◌, List, [], ◌∷◌, ◌++◌, length, get_or, take, drop, sym, refl, ap, ◌∙◌, subst, inl, inr, ⊎_elim, arith, take-append-drop}
+use Rattle.std.proofs.Common.{ℕ, List, [], ◌∷◌, ◌++◌, take, drop, refl, ap, subst, inl, inr, ⊎_elim, arith, take-append-drop}
 use Rattle.std.specs.List.{insert, AllByRecursion}
 use Rattle.states.specs.Lists.{In, Pairwise, Same}
 use Rattle.states.specs.Sums.{sum_of}
 use Rattle.states.proofs.Lists.{in_append_left, in_append_right, in_append_cases, all_in, all_from_in, sum_of_append}
-use Rattle.calls.specs.Stations.{Station, Ahead, OnSheet}
+use Rattle.calls.specs.Stations.{Station, Ahead}
 
 module _ (R : ℕ → ℕ → Type 0) where
   -- the front of an ordered list, and its last member

@@ -1,6 +1,6 @@
 -- The tokens of lines: a line is its word and its fields, with commas between them. Assumes nothing.
 use Rattle.std.specs.Prelude.{◌≡◌, ℕ, suc, ◌<◌, ◌≤◌, ◌⊎◌, List, ◌∷◌, ◌++◌, Some, None, Ok, Err, Option, Result}
-use Rattle.sheet_lines.specs.Cuts.{Free, Cut, marks}
+use Rattle.sheet_lines.specs.Cuts.{Free, marks}
 use Rattle.sheet_lines.specs.Words.{word_of}
 use Rattle.sheet_lines.specs.declared.kind.Kind.{Kind}
 use Rattle.sheet_lines.specs.declared.kind.Kind.TheVariants as kind

@@ -1,4 +1,4 @@
-use Rattle.std.proofs.Common.{◌≡◌, ℕ, ◌^◌, ◌<◌, Bool, length, vec_items, sym, ap, ◌∙◌, subst, ap₂, mod-eq_of_lt, arith}
+use Rattle.std.proofs.Common.{◌≡◌, ◌^◌, ◌<◌, length, vec_items, sym, ap, ◌∙◌, subst, ap₂, mod-eq_of_lt, arith}
 use Rattle.sheet.specs.Parts.{count_of, figures_of}
 use Rattle.states.specs.Answers.{numbers}
 use Rattle.states.specs.Masses.{mass}

@@ -1,9 +1,8 @@
-use Rattle.std.proofs.Common.{◌≡◌, ◌+◌, ◌-◌, ◌*◌, ◌^◌, ◌<◌, length, get_or, take, sym, ap, ◌∙◌, subst, arith, rules}
+use Rattle.std.proofs.Common.{get_or, take, ap, ◌∙◌, subst, arith, rules}
 use Rattle.std.proofs.lemmas.Int.Digits.{digits_value_more, digits_more}
 use Rattle.std.proofs.lemmas.List.{take_all, length-take-le}
 use Rattle.std.proofs.lemmas.Str.Parse.{digit_at}
 use Rattle.std.specs.Str.Parse.{AllDigits, digits_value as worth}
-use Rattle.std.specs.Char.{digit_value}
 use Rattle.sheet_lines.proofs.Fields.{digit_worth, short_value}
 use Rattle.sheet_lines.proofs.number.digits_in.Goals as goal
 

@@ -1,4 +1,4 @@
-use Rattle.std.proofs.Common.{◌≡◌, sym}
+use Rattle.std.proofs.Common.{sym}
 use Rattle.sheet_lines.proofs.Fields.{other_length, read_right}
 use Rattle.sheet_lines.proofs.number.number_in.Goals as goal
 

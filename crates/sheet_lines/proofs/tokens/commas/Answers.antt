@@ -1,4 +1,4 @@
-use Rattle.std.proofs.Common.{◌≡◌, ℕ, eqb, get_or, drop, ap, arith, eq-eqb, ne_eqb}
+use Rattle.std.proofs.Common.{ℕ, eqb, get_or, arith, eq-eqb, ne_eqb}
 use Rattle.std.proofs.lemmas.List.{at_drop_more, at_drop_all}
 use Rattle.std.proofs.lemmas.Bool.{cond-true, cond-false}
 use Rattle.sheet_lines.specs.Cuts.{marks}
@@ -11,8 +11,8 @@ loop-byte-preserved c =
     let i = c.loop-byte.byte-index in
     let more = at_drop_more (marks 44) xs i 0 c.loop-byte-test.true in
     elim c.if-byte-eq44.branch [
-      | then-byte-eq44 w ↦ (omega (arith, more, c.loop-byte.invariant.0, w.count_is, cond-true {A = ℕ} (eqb (get_or xs i 0) 44) 1 0 (eq-eqb (get_or xs i 0) 44 w.if-byte-eq44.true)), omega (arith, c.loop-byte.invariant.1, w.count_is))
-      | else-byte-eq44 w ↦ (omega (arith, more, c.loop-byte.invariant.0, w.count_is, cond-false {A = ℕ} (eqb (get_or xs i 0) 44) 1 0 (ne_eqb (get_or xs i 0) 44 w.if-byte-eq44.false)), omega (arith, c.loop-byte.invariant.1, w.count_is))
+      | then-byte-eq44 w ↦ (omega (arith, more, c.loop-byte.invariant.0, w.count-is, cond-true {A = ℕ} (eqb (get_or xs i 0) 44) 1 0 (eq-eqb (get_or xs i 0) 44 w.if-byte-eq44.true)), omega (arith, c.loop-byte.invariant.1, w.count-is))
+      | else-byte-eq44 w ↦ (omega (arith, more, c.loop-byte.invariant.0, w.count-is, cond-false {A = ℕ} (eqb (get_or xs i 0) 44) 1 0 (ne_eqb (get_or xs i 0) 44 w.if-byte-eq44.false)), omega (arith, c.loop-byte.invariant.1, w.count-is))
     ]
 
 pub returns : goal.returns

@@ -1,4 +1,4 @@
-use Rattle.std.proofs.Common.{◌≡◌, ◌∷◌, ◌++◌, ap, ◌∙◌, arith}
+use Rattle.std.proofs.Common.{◌∷◌, ◌++◌, ap, ◌∙◌, arith}
 use Rattle.sheet_lines.proofs.Cutting.{marks_free, free_marks, cut_marks}
 use Rattle.sheet_lines.proofs.tokens.three_fields.Goals as goal
 

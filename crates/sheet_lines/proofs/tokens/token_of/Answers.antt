@@ -1,4 +1,4 @@
-use Rattle.std.proofs.Common.{◌≡◌, sym, refl, arith}
+use Rattle.std.proofs.Common.{sym, refl, arith}
 use Rattle.sheet_lines.proofs.Cutting.{free_marks}
 use Rattle.sheet_lines.proofs.tokens.token_of.Goals as goal
 

@@ -1,4 +1,4 @@
-use Rattle.std.proofs.Common.{◌≡◌, ℕ, ◌-◌, ◌<◌, Bool, cond, List, [], length, get_or, vec_items, sym, refl, ap, ◌∙◌, subst, arith, rules, ltb-false, ltb-true}
+use Rattle.std.proofs.Common.{◌≡◌, ℕ, ◌-◌, ◌<◌, Bool, cond, List, [], length, get_or, vec_items, sym, refl, ap, ◌∙◌, subst, arith, ltb-false, ltb-true}
 use Rattle.std.proofs.lemmas.List.{nil_from_length}
 use Rattle.sheet.specs.Parts.{count_of, figures_of}
 use Rattle.states.specs.Answers.{numbers}
@@ -14,7 +14,7 @@ use Rattle.listing_calls.proofs.Advancing.{turn, mass_fits, sums_after, count_af
 use Rattle.listing_calls.proofs.listing.Listing.advance.Given as given
 use Rattle.listing_calls.proofs.listing.Listing.advance.Goals as goal
 
-the_turn : (g : given.Over) (l : Listing g.row.S.Denot g.row.R.Denot g.row.R-Key.Denot) (e : Waiting g.row.R-Key.Denot) (ws' : List (Waiting g.row.R-Key.Denot)) (b : Bool) (added moved : List ℕ)
+the_turn : (g : given.Over) (l : Listing g.row.S.Denot g.row.R.Denot g.row.R-Key.Denot g.S.Structure g.R.Ranking) (e : Waiting g.row.R-Key.Denot) (ws' : List (Waiting g.row.R-Key.Denot)) (b : Bool) (added moved : List ℕ)
     → (0 < length (vec_items l.waiting)) × (e ≡ get_or (vec_items l.waiting) (length (vec_items l.waiting) - 1) e) → b ≡ g.S.Structure.works l.pile e.state.number
     → added ≡ cond b (add_step (count_of l.sheet.now) e.state.number) [] → moved ≡ move_step (count_of l.sheet.now) e.state.number
     → Renewed (count_of l.sheet.now) (figures_of l.sheet.now) (g.R.Ranking.keyed l.ranking l.sheet.now) (ahead (g.R.Ranking.outranks l.ranking l.sheet.now)) added moved (vec_items l.waiting) ws'
@@ -42,22 +42,15 @@ invariant_of-self g c =
     let t = the_turn g l e (vec_items c.renew.new.waiting) c.works_in-works.result (numbers next.result.0) (numbers next.result.1) found c.works_in-works.ensures next.ensures.added next.ensures.moved c.renew.ensures.renewed in
     let up' = c.up_after-self.result in
     let down' = c.down_after-self.result in
-    let few = ltb-false 1025 _ (sym c.if-crowded.ensures) in (
-      omega (arith, c.renew.ensures.capacity, l.room),
-      (
-        omega (arith, c.renew.ensures.len, few, c.len.ensures),
-        (
-          on_after s t l.weighed l.up l.down up' down' c.up_after-self.ensures c.down_after-self.ensures,
-          (
-            weighed_after s t l.weighed l.up l.down up' down' c.up_after-self.ensures c.down_after-self.ensures,
-            (
-              sums_after s t l.weighed l.up l.down up' down' c.up_after-self.ensures c.down_after-self.ensures l.sums,
-              (count_after s t l.weighed l.up l.down up' down' c.up_after-self.ensures c.down_after-self.ensures l.handed l.count, tt),
-            ),
-          ),
-        ),
-      ),
-    )
+    let few = ltb-false 1025 _ (sym c.if-crowded.ensures) in
+    record {
+      room = omega (arith, c.renew.ensures.capacity, l.room);
+      few = omega (arith, c.renew.ensures.len, few, c.len.ensures);
+      on_sheet = on_after s t l.weighed l.up l.down up' down' c.up_after-self.ensures c.down_after-self.ensures;
+      weighed = weighed_after s t l.weighed l.up l.down up' down' c.up_after-self.ensures c.down_after-self.ensures;
+      sums = sums_after s t l.weighed l.up l.down up' down' c.up_after-self.ensures c.down_after-self.ensures l.sums;
+      count = count_after s t l.weighed l.up l.down up' down' c.up_after-self.ensures c.down_after-self.ensures l.handed l.count;
+    }
 
 pub returns : goal.returns
 returns g c =

@@ -18,22 +18,15 @@ invariant_of-result g c =
     let ws = vec_items c.args.room in
     let ws' = vec_items c.begin.new.waiting in
     let none = c.requires.empty in
-    let began = subst (λ z. Began (count_of s) (figures_of s) keyed before (z ∷ []) ws ws') c.new.ensures c.begin.ensures.began in (
-      omega (arith, c.requires.enough, c.begin.ensures.capacity),
-      (
-        omega (arith, c.args.room.ok.0, ap length c.requires.empty, c.begin.ensures.len),
-        (
-          opened_on_sheet s keyed before ws ws' none began,
-          (
-            opened_weighed s keyed before ws ws' none began,
-            (
-              opened_sums s keyed before ws ws' none began,
-              (opened_count s keyed before ws ws' none began, tt),
-            ),
-          ),
-        ),
-      ),
-    )
+    let began = subst (λ z. Began (count_of s) (figures_of s) keyed before (z ∷ []) ws ws') c.new.ensures c.begin.ensures.began in
+    record {
+      room = omega (arith, c.requires.enough, c.begin.ensures.capacity);
+      few = omega (arith, c.args.room.ok.0, ap length c.requires.empty, c.begin.ensures.len);
+      on_sheet = opened_on_sheet s keyed before ws ws' none began;
+      weighed = opened_weighed s keyed before ws ws' none began;
+      sums = opened_sums s keyed before ws ws' none began;
+      count = opened_count s keyed before ws ws' none began;
+    }
 
 pub returns : goal.returns
 returns g c =

@@ -1,4 +1,4 @@
-use Rattle.std.proofs.Common.{◌≡◌, length, vec_items, sym, refl, ap, ◌∙◌, subst, arith, eqb-true, MatchOption}
+use Rattle.std.proofs.Common.{length, vec_items, sym, refl, ap, ◌∙◌, subst, arith, eqb-true, MatchOption}
 use borrow.Author.Tests.{eqb-false}
 use Rattle.std.proofs.lemmas.List.{nil_from_length, length-map}
 use Rattle.calls.specs.Calls.{Goes_on, Ends}

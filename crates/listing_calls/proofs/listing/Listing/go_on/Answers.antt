@@ -1,4 +1,4 @@
-use Rattle.std.proofs.Common.{◌≡◌, refl, arith}
+use Rattle.std.proofs.Common.{refl, arith}
 use Rattle.calls.specs.declared.answers.Ending.TheVariants as ends
 use Rattle.listing_calls.specs.Listings.{memory_of}
 use Rattle.listing_calls.proofs.Calling.{same_itself, same_through}
@@ -32,7 +32,7 @@ loop-ending-preserved g c =
       same_through l l₁ l₂ c.loop-ending.invariant.1 next.station,
       λ ms left.
           goes_by g.S.Structure.works g.R.Ranking.outranks g.R.Ranking.keyed c.args.target c.args.budget l c.loop-ending.count l₁ c.loop-ending.invariant.1 (c.loop-ending.invariant.2 ms left)
-          l₂ next.station goes c.in-Ok.-answer next.advanced,
+          l₂ next.station goes c.in-Ok._answer next.advanced,
     )
 
 pub returns-in-Err : goal.returns-in-Err

@@ -1,4 +1,4 @@
-use Rattle.std.proofs.Common.{◌≡◌, [], sym, refl, ap, ◌∙◌, subst, arith, ltb-false, ltb-true}
+use Rattle.std.proofs.Common.{[], sym, refl, subst, ltb-false, ltb-true}
 use Rattle.calls.specs.Calls.{run_said, run_refused, Step, run_step, refused_step}
 use Rattle.calls.specs.declared.answers.Call.TheVariants as call
 use Rattle.calls.proofs.Sources.{lawful}

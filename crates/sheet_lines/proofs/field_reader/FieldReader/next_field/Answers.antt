@@ -1,4 +1,4 @@
-use Rattle.std.proofs.Common.{◌≡◌, ◌∷◌, length, refl, arith}
+use Rattle.std.proofs.Common.{◌∷◌, refl, arith}
 use Rattle.std.proofs.lemmas.List.{drop_all}
 use Rattle.sheet_lines.proofs.FieldSteps.{next_within, next_comma, field_split, field_free, field_ends}
 use Rattle.sheet_lines.proofs.field_reader.FieldReader.next_field.Goals as goal
@@ -10,7 +10,10 @@ pub invariant_of-self : goal.invariant_of-self
 invariant_of-self c =
     let l = c.args.self.now in
     let w = c.width-width in
-    (next_within l.fields.now l.place w.result c.if-self.false l.after_comma w.ensures, (next_comma l.fields.now l.place w.result c.if-self.false l.after_comma w.ensures, tt))
+    record {
+      within = next_within l.fields.now l.place w.result c.if-self.false l.after_comma w.ensures;
+      after_comma = next_comma l.fields.now l.place w.result c.if-self.false l.after_comma w.ensures;
+    }
 
 pub returns : goal.returns
 returns c =
