@@ -4,7 +4,7 @@
 usage: python3 tools/respell.py        at the top of the repository, once, after the kit's port.py
 
 A name of ours is one that a file of specs/ or proofs/ declares, or that a use line brings in under another name, and that
-has a dash. It is respelled in every .rt and .antt file of crates/, but not in a file that imports a library's word of that
+has a dash, or is a type in snake case. It is respelled in every .rt and .antt file of crates/, but not in a file that imports a library's word of that
 spelling, and never inside an import from a library. Names that the toolchain makes (the goals that answer files answer)
 keep their spelling, and so do functions of src/, strings, inputs and outputs, which have no dashes of this kind. Where a
 new spelling already stands in a file that uses the old one, the script changes nothing, names both and exits with 1."""
@@ -43,7 +43,9 @@ def declared(path, text):
             found.add(head.group(1))
         elif one and not (os.path.basename(path) in ANSWERS and re.match(r"\s*goal\.", one.group(2))):
             found.add(one.group(1))
-    return {n for n in found if re.fullmatch(r"[A-Za-z0-9_']+(-[A-Za-z0-9_']+)+", n)}
+    dashed = r"[A-Za-z0-9_']+(-[A-Za-z0-9_']+)+"
+    half_turned = r"[A-Z][a-z0-9]*(_[A-Za-z0-9']+)+"
+    return {n for n in found if re.fullmatch(f"{dashed}|{half_turned}", n)}
 
 
 def imported(text, crates):
@@ -60,7 +62,7 @@ def imported(text, crates):
 def respelled(name):
     if name in CHOSEN:
         return CHOSEN[name]
-    words = name.split("-")
+    words = re.split("[-_]", name) if name[0].isupper() else name.split("-")
     if name[0].isupper():
         return "".join(w[0].upper() + w[1:] for w in words)
     return "_".join(words)

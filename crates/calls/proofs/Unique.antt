@@ -5,7 +5,7 @@ use Rattle.states.specs.Lists.{In, Same}
 use Rattle.states.specs.Sums.{sum_of}
 use Rattle.states.specs.Trees.{tree_sum}
 use Rattle.states.proofs.Lists.{all_in, sum_of_append, same_in, same_length, same_sym, same_nil, same_all}
-use Rattle.calls.specs.Calls.{Reached, Goes_on, Ends, Runs, ends_here, goes_on, Said, next_said, run_said, figures_said, Step, next_step, run_step, refused_step, figures_step}
+use Rattle.calls.specs.Calls.{Reached, GoesOn, Ends, Runs, ends_here, goes_on, Said, next_said, run_said, figures_said, Step, next_step, run_step, refused_step, figures_step}
 use Rattle.calls.specs.declared.answers.Call.{Call}
 use Rattle.calls.specs.declared.answers.Call.TheVariants as call
 use Rattle.calls.specs.declared.answers.Ending.{Ending}
@@ -125,7 +125,7 @@ module _ (w : Station) (laws : Lawful w) (target budget : ℕ) where
   one_end xs count l m ends.Full ends.Full k a p q = refl
 
   -- a run that goes on does not end
-  no_end : (xs : List ℕ) (count x : ℕ) (v : Verdict) (l l₁ m : Memory) (e : Ending) → Kept w xs l → Alike l m → Goes_on target budget count l → Next w l (handed_out x v) l₁ → Ends w target budget count m e → ⊥
+  no_end : (xs : List ℕ) (count x : ℕ) (v : Verdict) (l l₁ m : Memory) (e : Ending) → Kept w xs l → Alike l m → GoesOn target budget count l → Next w l (handed_out x v) l₁ → Ends w target budget count m e → ⊥
   no_end xs count x v l l₁ m ends.Reached k a g n q = g.not_reached (reached_alike target m l (alike_sym l m a) q)
   no_end xs count x v l l₁ m ends.Finished k a g n q = g.not_finished (empty_alike m l (alike_sym l m a) q.1)
   no_end xs count x v l l₁ m ends.Spent k a g n q = omega (arith, g.not_spent, q.2)

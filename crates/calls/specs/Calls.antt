@@ -16,7 +16,7 @@ abbrev pub Reached : ℕ → Memory → Type 0
 Reached target l = target * 10 ^ 12 ≤ l.up + l.down
 
 -- a run that has handed out so many states goes on: neither reached nor finished nor spent
-pub record Goes_on (target budget count : ℕ) (l : Memory) : Type 0 where
+pub record GoesOn (target budget count : ℕ) (l : Memory) : Type 0 where
   pub not_reached : Reached target l → ⊥
   pub not_finished : l.waiting ≡ [] → ⊥
   pub not_spent : count < budget
@@ -26,12 +26,12 @@ abbrev pub Ends : Station → ℕ → ℕ → ℕ → Memory → Ending → Type
 Ends w target budget count l ends.Reached = Reached target l
 Ends w target budget count l ends.Finished = (Reached target l → ⊥) × (l.waiting ≡ [])
 Ends w target budget count l ends.Spent = (Reached target l → ⊥) × (l.waiting ≢ []) × (count ≡ budget)
-Ends w target budget count l ends.Full = Goes_on target budget count l × Next w l full l
+Ends w target budget count l ends.Full = GoesOn target budget count l × Next w l full l
 
 -- from l on, a run that has handed out count states hands out xs, ends so, and leaves l'
 pub data Runs (w : Station) (target budget : ℕ) : ℕ → Memory → Ending → List ℕ → Memory → Type 0 where
   ends_here : {count : ℕ} {l : Memory} {e : Ending} → Ends w target budget count l e → Runs w target budget count l e [] l
-  goes_on : {count x : ℕ} {v : Verdict} {l l₁ l₂ : Memory} {e : Ending} {xs : List ℕ} → Goes_on target budget count l
+  goes_on : {count x : ℕ} {v : Verdict} {l l₁ l₂ : Memory} {e : Ending} {xs : List ℕ} → GoesOn target budget count l
       → Next w l (handed_out x v) l₁ → Runs w target budget (suc count) l₁ e xs l₂ → Runs w target budget count l e (x ∷ xs) l₂
 
 -- what a call answers

@@ -3,7 +3,7 @@ use Rattle.std.proofs.Common.{◌≡◌, ℕ, suc, ◌+◌, ◌*◌, ◌^◌, �
 use borrow.Author.Tests.{eqb-false}
 use Rattle.std.proofs.lemmas.List.{append-nil, append_assoc, length_push}
 use Rattle.sheet.specs.declared.sealed.Sheet.{Sheet}
-use Rattle.calls.specs.Calls.{Goes_on, Ends, Runs, ends_here, goes_on, next_said, next_step}
+use Rattle.calls.specs.Calls.{GoesOn, Ends, Runs, ends_here, goes_on, next_said, next_step}
 use Rattle.calls.specs.Handing.{Next, handed_out}
 use Rattle.calls.specs.Histories.{Moment, moment, Led, more}
 use Rattle.calls.specs.Memories.{Memory}
@@ -24,7 +24,7 @@ use Rattle.rankings.specs.declared.ranking.Ranking.{Ghosts as RankingGhosts}
 -- how a run ends, from its three tests
 pub ended_so : (w : Station) (target budget count : ℕ) (l : Memory) (reached finished spent : Bool) → reached ≡ leb (target * 10 ^ 12) (l.up + l.down)
     → (finished ≡ true → l.waiting ≡ []) → (finished ≡ false → l.waiting ≡ [] → ⊥) → spent ≡ eqb count budget → count ≤ budget
-    → MatchOption (cond reached (Some ends.Reached) (cond finished (Some ends.Finished) (cond spent (Some ends.Spent) None))) (Goes_on target budget count l) (Ends w target budget count l)
+    → MatchOption (cond reached (Some ends.Reached) (cond finished (Some ends.Finished) (cond spent (Some ends.Spent) None))) (GoesOn target budget count l) (Ends w target budget count l)
 ended_so w target budget count l true finished spent r e n s few = leb-true (target * 10 ^ 12) (l.up + l.down) (sym r)
 ended_so w target budget count l false true spent r e n s few =
     ((λ h. omega (arith, h, leb-false (target * 10 ^ 12) (l.up + l.down) (sym r))), e refl)
@@ -60,7 +60,7 @@ module _ {S R K : Type 0} {sg : StructureGhosts S} {rg : RankingGhosts R K} (wor
         (so.out, so.many, subst₂ (λ xs k. Runs (station_of works outranks l) target budget 0 (memory_of l) e xs k) (append-nil so.out) (sym same_memory) runs)
 
     -- or goes on by one state
-    pub goes_by : (l₂ : Listing S R K sg rg) → SameStation l₁ l₂ → Goes_on target budget count (memory_of l₁) → (a : Answer) → Advanced works outranks keyed (next_answer (Ok a)) l₁ l₂
+    pub goes_by : (l₂ : Listing S R K sg rg) → SameStation l₁ l₂ → GoesOn target budget count (memory_of l₁) → (a : Answer) → Advanced works outranks keyed (next_answer (Ok a)) l₁ l₂
         → SoFar works outranks keyed target budget (count + 1) l l₂
     goes_by l₂ same₂ goes (answer.Handed state v) advanced =
         let done = advanced so.moments so.left in

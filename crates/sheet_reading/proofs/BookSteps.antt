@@ -1,15 +1,13 @@
 -- The rules of a line, test by test. Assumes nothing.
-use Rattle.std.proofs.Common.{◌≡◌, ℕ, suc, ◌<◌, ◌≤◌, Bool, true, false, cond, ◌&&◌, eqb, ltb, leb, List, [], ◌∷◌, ◌++◌, map, length, get_or, is_some, Some, None, Option, sym, refl, ap, ◌∙◌, subst, ⊎_elim, arith, ltb-false, ltb-true, lt-ltb, eq-eqb, le-leb, leb-false, leb-true}
-use borrow.Author.Tests.{clash}
-use Rattle.std.proofs.lemmas.Bool.{and_from, cases_Bool, cond-true, cond-false}
+use Rattle.std.proofs.Common.{◌≡◌, ℕ, suc, Bool, true, false, cond, ◌&&◌, eqb, ltb, leb, List, [], ◌∷◌, map, length, get_or, is_some, Some, refl, ap, ◌∙◌, ⊎_elim, arith, ltb-false, lt-ltb, eq-eqb, le-leb, leb-false, leb-true}
+use Rattle.std.proofs.lemmas.Bool.{cases_Bool, cond-true, cond-false}
 use Rattle.sheet.specs.Adding.{adding_refused}
 use Rattle.sheet.specs.Orders.{last_or}
 use Rattle.sheet.specs.Parts.{grade_of}
 use Rattle.sheet.specs.declared.part.Part.{Part}
-use Rattle.sheet_lines.specs.declared.kind.Kind.{Kind}
 use Rattle.sheet_lines.specs.declared.kind.Kind.TheVariants as kind
 use Rattle.sheet_reading.specs.Paths.{first_off}
-use Rattle.sheet_reading.specs.Rules.{Content, Rule, rule, in_turn, rising, rules, broken}
+use Rattle.sheet_reading.specs.Rules.{Content, Rule, rule, rising, rules, broken}
 use Rattle.sheet_reading.specs.Stages.{next_stage}
 use Rattle.sheet_reading.specs.declared.stage.Stage.{Stage}
 use Rattle.sheet_reading.specs.declared.stage.Stage.TheVariants as stage

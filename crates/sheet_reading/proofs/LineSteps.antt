@@ -1,5 +1,5 @@
 -- A line that a book takes. Assumes nothing.
-use Rattle.std.proofs.Common.{◌≡◌, ℕ, List, [], ◌∷◌, Ok, Err, Result, sym, ap, ◌∙◌, subst, inr}
+use Rattle.std.proofs.Common.{◌≡◌, ℕ, List, [], ◌∷◌, Ok, Err, Result, sym, subst, inr}
 use Rattle.sheet_lines.specs.Faults.{told_by}
 use Rattle.sheet_lines.specs.Tokens.{kind_in, fields_in}
 use Rattle.sheet_lines.specs.declared.fault.Fault.{Fault}

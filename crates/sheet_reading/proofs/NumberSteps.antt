@@ -4,11 +4,9 @@ use Rattle.std.proofs.ByRecursion.{All-push}
 use Rattle.std.proofs.lemmas.List.{append-nil, append_assoc}
 use Rattle.std.proofs.lemmas.Fmt.{decimal_is_IsNumeral}
 use Rattle.std.proofs.lemmas.Str.Parse.{digit_at}
-use Rattle.std.specs.List.{AllByRecursion}
 use Rattle.sheet_lines.specs.Cuts.{Free, marks}
 use Rattle.sheet_lines.specs.Tokens.{kind_in, fields_in, Parted, RightCount}
 use Rattle.sheet_lines.specs.declared.kind.Kind.{Kind}
-use Rattle.sheet_lines.specs.declared.kind.Kind.TheVariants as kind
 use Rattle.sheet_lines.specs.declared.token.Token.{Token}
 use Rattle.sheet_lines.specs.declared.token.Token.TheVariants as token
 use Rattle.sheet_lines.proofs.Cutting.{marks_free, marks_append}

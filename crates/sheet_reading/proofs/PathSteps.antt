@@ -1,5 +1,5 @@
 -- The numbers of a path, one by one. Assumes nothing.
-use Rattle.std.proofs.Common.{◌≡◌, ℕ, zero, suc, pred, ◌+◌, ◌-◌, ◌*◌, ◌%◌, ◌^◌, ◌<◌, ◌≤◌, true, false, ◌&&◌, ltb, leb, List, [], ◌∷◌, sym, refl, ap, ◌∙◌, mod-eq_of_lt, sub-one, arith, lit<, pow_mono, le-ltb, lt-ltb, le-leb}
+use Rattle.std.proofs.Common.{◌≡◌, ℕ, zero, suc, pred, ◌+◌, ◌-◌, ◌*◌, ◌%◌, ◌^◌, ◌<◌, ◌≤◌, ◌&&◌, ltb, leb, List, [], ◌∷◌, ap, ◌∙◌, mod-eq_of_lt, sub-one, arith, pow_mono, le-ltb, lt-ltb, le-leb}
 use native.Mathlib.Nat.{two-pow-succ}
 use borrow.Author.Tests.{lt-leb}
 use lib.Pow.{pow-lt}

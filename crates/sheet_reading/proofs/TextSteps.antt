@@ -1,18 +1,16 @@
 -- A text read line by line. Assumes nothing.
-use Rattle.std.proofs.Common.{◌≡◌, ℕ, suc, ◌+◌, ◌≤◌, ◌⊎◌, List, [], ◌∷◌, ◌++◌, length, Ok, Err, sym, refl, ap, ◌∙◌, subst, inl, inr, arith}
+use Rattle.std.proofs.Common.{◌≡◌, ℕ, suc, ◌+◌, ◌≤◌, List, [], ◌∷◌, ◌++◌, length, Ok, Err, sym, refl, ap, ◌∙◌, subst, inl, inr, arith}
 use Rattle.std.proofs.lemmas.List.{append-nil, append_assoc, length_push}
 use Rattle.sheet_lines.specs.Cuts.{Cut}
-use Rattle.sheet_lines.specs.Faults.{told_by}
-use Rattle.sheet_lines.specs.Lines.{TokenAt}
 use Rattle.sheet_lines.specs.Texts.{after_commas, line_text}
 use Rattle.sheet_lines.specs.Tokens.{kind_in, fields_in, line_of, Parted}
 use Rattle.sheet_lines.specs.Words.{word_of}
 use Rattle.sheet_lines.specs.declared.fault.Fault.{Fault}
 use Rattle.sheet_lines.specs.declared.token.Token.{Token}
 use Rattle.sheet_reading.specs.Books.{content_of, TakesLine}
-use Rattle.sheet_reading.specs.Numbers.{Written, NumberFault}
+use Rattle.sheet_reading.specs.Numbers.{Written}
 use Rattle.sheet_reading.specs.Readings.{Row, rows_text, Beginning, none, more, LineFault, no_number, no_rule, Holds, FirstFaulty}
-use Rattle.sheet_reading.specs.Rules.{Content, nothing, rules, broken, Adds}
+use Rattle.sheet_reading.specs.Rules.{Content, nothing}
 use Rattle.sheet_reading.specs.declared.book.Book.{Book}
 use Rattle.sheet_reading.specs.declared.stage.Stage.TheVariants as stage
 use Rattle.sheet_reading.proofs.NumberSteps.{numbers_many}

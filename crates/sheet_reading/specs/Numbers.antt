@@ -5,7 +5,6 @@ use Rattle.sheet_lines.specs.Cuts.{Free}
 use Rattle.sheet_lines.specs.Numbers.{Writes}
 use Rattle.sheet_lines.specs.Texts.{after_commas}
 use Rattle.sheet_lines.specs.declared.fault.Fault.{Fault}
-use Rattle.sheet_lines.specs.declared.fault.Refusal.{Refusal}
 use Rattle.sheet_lines.specs.declared.fault.Refusal.TheVariants as refusal
 
 -- numbers of at most eight digits

@@ -1,5 +1,5 @@
 -- The rules of a line, given the lines before it. Assumes nothing.
-use Rattle.std.specs.Prelude.{◌≡◌, ℕ, suc, ◌≤◌, Bool, true, false, cond, ◌&&◌, List, [], ◌∷◌, ◌++◌, map, length, is_some, ◌==◌, nat_le, nat_lt, slice_index}
+use Rattle.std.specs.Prelude.{◌≡◌, ℕ, suc, Bool, true, false, cond, ◌&&◌, List, [], ◌∷◌, ◌++◌, map, length, is_some, ◌==◌, nat_le, nat_lt, slice_index}
 use Rattle.sheet.specs.Orders.{last_or}
 use Rattle.sheet.specs.Parts.{grade_of}
 use Rattle.sheet.specs.declared.part.Part.{Part}

@@ -4,7 +4,6 @@
 mod book;
 mod numbers;
 mod path;
-mod reading;
 mod stage;
 
 pub use stage::Stage;

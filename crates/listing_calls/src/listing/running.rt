@@ -1,5 +1,5 @@
 ghost use Rattle.std.specs.Prelude.{◌≡◌, ◌+◌, ◌*◌, ◌^◌, ◌≤◌, if◌then◌else◌, Some, None, MatchOption, OnErr, nat_le, nat_lt};
-ghost use Rattle.calls.specs.Calls.{Goes_on, Ends};
+ghost use Rattle.calls.specs.Calls.{GoesOn, Ends};
 ghost use Rattle.calls.specs.Replies.{run_answer};
 ghost use Rattle.listing_calls.specs.Listings.{memory_of, station_of, SameStation, RanOn, Called};
 
@@ -51,7 +51,7 @@ impl<'a, S: Structure, R: Ranking> Listing<'a, S, R> {
     fn ended(&self, target: u32, budget: u64, count: u64) -> Option<Ending>
         requires target { target ≤ 1000000 }
         requires count { count ≤ budget }
-        ensures { MatchOption result (Goes_on target budget count (memory_of self.now)) (Ends (station_of S.Structure.works R.Ranking.outranks self.now) target budget count (memory_of self.now)) }
+        ensures { MatchOption result (GoesOn target budget count (memory_of self.now)) (Ends (station_of S.Structure.works R.Ranking.outranks self.now) target budget count (memory_of self.now)) }
     {
         first_ending(
             self.has_reached(target),

@@ -1,4 +1,4 @@
-use Rattle.std.proofs.Common.{◌≡◌, [], ◌∷◌, vec_items, refl, inl}
+use Rattle.std.proofs.Common.{[], ◌∷◌, vec_items, refl, inl}
 use Rattle.std.proofs.lemmas.Result.{err_from_is_err_and}
 use Rattle.sheet_reading.proofs.NumberSteps.{one_number, faulty, all_read, none_read, last_field}
 use Rattle.sheet_reading.proofs.numbers.feed_numbers.Goals as goal

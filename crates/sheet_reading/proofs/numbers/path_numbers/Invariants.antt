@@ -1,4 +1,4 @@
-use Rattle.std.proofs.Common.{◌≡◌, ◌∷◌, length, vec_items}
+use Rattle.std.proofs.Common.{◌∷◌, length, vec_items}
 use Rattle.sheet_lines.specs.Fields.{left_of}
 use Rattle.sheet_reading.proofs.NumberSteps.{Progress}
 use Rattle.sheet_reading.proofs.numbers.path_numbers.Given as goal

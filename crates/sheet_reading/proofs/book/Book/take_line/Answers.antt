@@ -1,5 +1,5 @@
-use Rattle.std.proofs.Common.{◌≡◌, ℕ, ◌<◌, ◌≤◌, List, length, get_or, vec_items, sym, ap, subst, arith}
-use Rattle.sheet_lines.specs.Tokens.{kind_in, fields_in}
+use Rattle.std.proofs.Common.{◌≡◌, ◌<◌, ◌≤◌, length, get_or, vec_items, ap, subst, arith}
+use Rattle.sheet_lines.specs.Tokens.{kind_in}
 use Rattle.sheet_lines.specs.declared.kind.Kind.TheVariants as kind
 use Rattle.sheet_reading.specs.Books.{Takes}
 use Rattle.sheet_reading.proofs.LineSteps.{takes_line}

@@ -1,4 +1,4 @@
-use Rattle.std.proofs.Common.{◌≡◌, [], ◌∷◌, ◌++◌, length, get_or, sym, refl, ap, ◌∙◌, subst, arith}
+use Rattle.std.proofs.Common.{length, get_or, sym, refl, ap, ◌∙◌, subst, arith}
 use Rattle.std.proofs.lemmas.List.{length_push}
 use Rattle.sheet.specs.Parts.{drafted}
 use Rattle.sheet_reading.specs.Books.{content_of}
@@ -9,7 +9,7 @@ pub invariant_of-self : goal.invariant_of-self
 invariant_of-self c =
     let b = c.args.self.now in
     let added = c.in-Ok.ensures in
-    (omega (arith, b.counted, ap length added.2.3, length_push (drafted b.draft) added.2.0), tt)
+    record { counted = omega (arith, b.counted, ap length added.2.3, length_push (drafted b.draft) added.2.0) }
 
 pub returns-in-Ok : goal.returns-in-Ok
 returns-in-Ok c = λ most.

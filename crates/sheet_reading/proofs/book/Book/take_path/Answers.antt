@@ -1,8 +1,7 @@
-use Rattle.std.proofs.Common.{◌≡◌, true, false, ltb, [], ◌∷◌, ◌++◌, length, vec_items, sym, refl, ap, ◌∙◌, arith, le-ltb, lt-ltb}
+use Rattle.std.proofs.Common.{true, false, [], ◌∷◌, ◌++◌, length, vec_items, sym, refl, ap, ◌∙◌, arith, le-ltb, lt-ltb}
 use Rattle.sheet_lines.specs.Faults.{told_by}
-use Rattle.sheet_lines.specs.declared.fault.Fault.{Fault}
 use Rattle.sheet_reading.specs.Books.{content_of}
-use Rattle.sheet_reading.specs.Paths.{first_off, set_of}
+use Rattle.sheet_reading.specs.Paths.{first_off}
 use Rattle.sheet_reading.proofs.BookSteps.{to_paths, path_rules, same_content}
 use Rattle.sheet_reading.proofs.book.Book.take_path.Goals as goal
 
