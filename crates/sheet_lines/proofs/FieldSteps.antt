@@ -1,15 +1,9 @@
 -- Fields read one by one. Assumes nothing.
 use Rattle.std.proofs.Common.{◌≡◌, ℕ, suc, ◌+◌, ◌-◌, ◌<◌, ◌≤◌, ◌⊎◌, List, [], ◌∷◌, ◌++◌, length, get_or, take, drop, sym, refl, ap, ◌∙◌, subst, ap₂, inl, inr, ⊎_elim, arith, take-append-drop}
-use Rattle.std.proofs.lemmas.List.{take_all, drop_all, drop_more, drop-drop, length-drop, get_or-drop, get_or_past}
+use Rattle.std.proofs.lemmas.List.{drop_all, drop_more, drop-drop, length-drop, get_or-drop, get_or_past}
 use Rattle.sheet_lines.specs.Cuts.{Free}
 use Rattle.sheet_lines.specs.Fields.{FirstField}
-use Rattle.sheet_lines.proofs.Cutting.{free_take, rest_whole}
-
-pub field_found : (xs : List ℕ) (i : ℕ) → i < length xs → get_or xs i 0 ≡ 44 → ((k : ℕ) → k < i → get_or xs k 0 ≡ 44 → ⊥) → FirstField xs i
-field_found xs i inside comma none = record { within = omega arith; free = free_take xs i 44 (omega arith) none; ends = inr comma }
-
-pub field_whole : (xs : List ℕ) → Free 44 xs → FirstField xs (length xs)
-field_whole xs free = record { within = omega arith; free = subst (Free 44) (sym (take_all (length xs) xs (omega arith))) free; ends = inl refl }
+use Rattle.sheet_lines.proofs.Cutting.{rest_whole}
 
 -- one field of width w was read from place p on
 module _ (fields : List ℕ) (p w : ℕ) (inside : p ≤ length fields) (comma : get_or (44 ∷ fields) p 44 ≡ 44) (first : FirstField (take (length fields - p) (drop p fields)) w) where
