@@ -1,24 +1,20 @@
 -- Lists of numbers that never fall: their last number, and one number more. Assumes nothing.
-use Rattle.std.proofs.Common.{◌≡◌, ℕ, suc, ◌-◌, ◌<◌, ◌≤◌, Bool, true, false, cond, leb, List, [], ◌∷◌, ◌++◌, map, length, get_or, sym, refl, ap, ◌∙◌, not-suc-le-zero, arith, le-leb}
-use Rattle.std.proofs.lemmas.List.{get_or-map, length-map, map_push}
+use Rattle.std.proofs.Common.{◌≡◌, ℕ, suc, ◌-◌, ◌≤◌, Bool, true, false, cond, leb, List, [], ◌∷◌, ◌++◌, map, length, slice_get, unwrap_or, option_map, Some, refl, arith, le-leb}
+use Rattle.std.proofs.lemmas.List.{map_push}
 use Rattle.std.proofs.lemmas.Bool.{and_parts, and_from}
 use Rattle.sheet.specs.Orders.{never_falls, never_falls_from, last_or}
 
-last_at : (xs : List ℕ) (d e : ℕ) → 0 < length xs → last_or d xs ≡ get_or xs (length xs - 1) e
-last_at [] d e h = absurd (not-suc-le-zero h)
-last_at (x ∷ []) d e h = refl
-last_at (x ∷ (y ∷ ys)) d e h =
-    let place : suc (suc (length ys) - 1) ≡ suc (suc (length ys)) - 1 = omega arith in
-    last_at (y ∷ ys) x e (omega arith) ∙ ap (λ k. get_or (x ∷ (y ∷ ys)) k e) place
+-- of numbers f y, the last one is that of the last y
+last_some : {X : Type 0} (f : X → ℕ) (x : X) (xs : List X) (d : ℕ) → option_map f (slice_get (x ∷ xs) (length xs)) ≡ Some (last_or d (map f (x ∷ xs)))
+last_some f x [] d = refl
+last_some f x (y ∷ ys) d = last_some f y ys (f x)
 
--- the last of the numbers f x, where the last of xs is x
-pub last_map : {X : Type 0} (f : X → ℕ) (xs : List X) (x : X) (d : ℕ) → 0 < length xs → x ≡ get_or xs (length xs - 1) x → f x ≡ last_or d (map f xs)
-last_map f xs x d h read =
-    let some : 0 < length (map f xs) = simp length-map h in
-    sym (last_at (map f xs) d 0 some
-    ∙ ap (λ n. get_or (map f xs) (n - 1) 0) (length-map xs f)
-    ∙ get_or-map f xs (length xs - 1) x 0 (omega arith)
-    ∙ ap f (sym read))
+-- the last of the numbers f x of a list, d where there is none
+pub last_map : {X : Type 0} (f : X → ℕ) (xs : List X) (d : ℕ) → last_or d (map f xs) ≡ unwrap_or (option_map f (slice_get xs (length xs - 1))) d
+last_map f [] d = refl
+last_map f (x ∷ xs) d =
+    let place : suc (length xs) - 1 ≡ length xs = omega arith in
+    rw (place, last_some f x xs d) refl
 
 -- no number falls where one comes that is not below the last
 pub one_more : (low : ℕ) (xs : List ℕ) (x : ℕ) → never_falls_from low xs ≡ true → last_or low xs ≤ x → never_falls_from low (xs ++ x ∷ []) ≡ true

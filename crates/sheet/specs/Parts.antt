@@ -14,7 +14,7 @@ figure_of p = figure (grade_of p)
 
 -- the parts of a draft, part 1 first
 abbrev pub drafted : Draft → List Part
-drafted d = vec_items d.parts
+drafted d = vec_items d.sheet.parts
 
 -- the parts of a sheet, part 1 first
 abbrev pub parts_of : Sheet → List Part

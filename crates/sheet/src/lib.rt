@@ -6,11 +6,13 @@ mod grade;
 mod part;
 mod part_number;
 mod refusal;
+mod refusal_number;
 mod sealed;
 
 pub use draft::Draft;
-pub use grade::Grade;
+pub use grade::{Grade, GradeTooHigh};
 pub use part::Part;
 pub use part_number::PartNumber;
 pub use refusal::{AddError, PartNumberError};
+pub use refusal_number::RefusalNumber;
 pub use sealed::Sheet;

@@ -1,14 +1,15 @@
 -- Masses: what is left after some parts depends on these parts alone, and the masses of all states that agree up to some part
 -- sum to what is left there. Assumes nothing.
-use Rattle.std.proofs.Common.{◌≡◌, ℕ, zero, suc, ◌+◌, ◌*◌, ◌/◌, ◌%◌, ◌^◌, ◌<◌, ◌≤◌, Bool, true, false, cond, ◌||◌, eqb, List, length, get_or, sym, refl, ap, ◌∙◌, ap₂, mod-lt, mod-eq_of_lt, mul-le-mul_left, div-add-mod', arith, pow_pos, pow-add, eq-eqb, ne_eqb}
+use Rattle.std.proofs.Common.{◌≡◌, ℕ, zero, suc, ◌+◌, ◌*◌, ◌/◌, ◌%◌, ◌^◌, ◌<◌, ◌≤◌, Bool, true, false, cond, ◌||◌, eqb, List, length, get_or, map, sym, refl, ap, ◌∙◌, ap₂, mod-lt, mod-eq_of_lt, mul-le-mul_left, div-add-mod', arith, pow_pos, pow-add, eq-eqb, ne_eqb}
 use mathlib.Core.Bool.{or-false}
 use native.Mathlib.Nat.{mod-mod, two-pow-succ, mul-add-mod_self_right, mod-one}
 use Rattle.std.proofs.lemmas.Bool.{or_right}
 use Rattle.states.specs.Steps.{low, agrees}
 use Rattle.states.proofs.Bits.{bit_low, bit_beyond}
 use Rattle.states.proofs.Sets.{bit_added}
-use Rattle.std.proofs.lemmas.List.{length-map}
+use Rattle.std.proofs.lemmas.List.{length-map, get_or-map}
 use Rattle.sheet.specs.Parts.{figures_of, figure_of, parts_of, count_of}
+use Rattle.sheet.specs.declared.part.Part.{Part}
 use Rattle.sheet.specs.declared.sealed.Sheet.{Sheet}
 use Rattle.sheet.proofs.Figures.{figures_half}
 use Rattle.states.specs.Sets.{bit, has}
@@ -118,12 +119,16 @@ after_none qs x = refl
 pub fall_apart : (q s : ℕ) → s / 1000000 * q + s % 1000000 * q / 1000000 ≡ fall q s
 fall_apart q s = omega (arith, ap (λ t. t * q) (div-add-mod' s 1000000))
 
+pub part_le : (q s : ℕ) → q ≤ 1000000 → s / 1000000 * q ≤ s
+part_le q s h = omega (arith, mul-le-mul_left (s / 1000000) h)
+
 -- what the code works out at part l + 1
-pub after_more : (qs : List ℕ) (l x q s r : ℕ) → q ≡ get_or qs l 0 → s ≡ after qs l x → r ≡ goes_on q s (eqb (x / 2 ^ l % 2) 1) → r ≡ after qs (l + 1) x
+pub after_part : (ps : List Part) (l x : ℕ) (p : Part) → l < length ps → p ≡ get_or ps l p
+    → after (map figure_of ps) (l + 1) x ≡ goes_on (figure_of p) (after (map figure_of ps) l x) (eqb (x / 2 ^ l % 2) 1)
 unfolding after bit
-after_more qs l x q s r eq es er =
+after_part ps l x p h is =
     let e : l + 1 ≡ suc l = omega arith in
-    er ∙ ap₂ (λ p t. goes_on p t (bit l x)) eq es ∙ sym (ap (λ k. after qs k x) e)
+    rw (e, get_or-map figure_of ps l p 0 h, ← is) refl
 
 -- no state weighs more than the total
 after_le : (qs : List ℕ) → Figures qs → (l x : ℕ) → after qs l x ≤ total

@@ -1,9 +1,9 @@
 -- Sets of parts: what with, without, union and containment say part by part. Assumes nothing.
-use Rattle.std.proofs.Common.{◌≡◌, ℕ, zero, suc, pred, ◌+◌, ◌-◌, ◌*◌, ◌%◌, ◌^◌, ◌<◌, ◌≤◌, Bool, true, false, cond, not, ◌&&◌, ◌||◌, eqb, sym, refl, ap, ◌∙◌, subst, ⊎_elim, mod-lt, mod-eq_of_lt, zero-add, arith, pow_pos, eq-eqb, ne_eqb, eqb-true}
+use Rattle.std.proofs.Common.{◌≡◌, ℕ, zero, suc, pred, ◌+◌, ◌-◌, ◌*◌, ◌%◌, ◌^◌, ◌<◌, ◌≤◌, Bool, true, false, cond, not, ◌&&◌, ◌||◌, eqb, ◌==◌, sym, refl, ap, ◌∙◌, subst, ⊎_elim, mod-lt, mod-eq_of_lt, zero-add, arith, pow_pos, eq-eqb, ne_eqb, eqb-true}
 use mathlib.Core.Bool.{xor, or_comm}
 use native.Mathlib.Nat.{mod-one}
 use borrow.Author.Tests.{eqb-false}
-use lib.Bits.{bit_and, bit_or, bit_xor, or_disjoint, or_lt, and_le_r, xor_add_and, and_comm}
+use lib.Bits.{bit_and, bit_or, bit_xor, or_disjoint, or_lt, and_le_l, and_le_r, xor_add_and, and_comm}
 use lib.Count.{ones, ones_cat, ones-ones}
 use lib.Pow.{pow-lt}
 use Rattle.std.proofs.lemmas.Bool.{cases_eq, and_left, and_right, and_parts, and_from, or_left, or_right, or_cases, cond_both}
@@ -172,3 +172,22 @@ without_within i x y w =
     within_from (without_part i x) (without_part i y)
     (λ k t. let both = and_parts (not (eqb k (pred i))) (bit k x) (sym (bit_without i k x) ∙ t) in
     bit_without i k y ∙ and_from _ _ both.0 (within_bit x y k w both.1))
+
+-- the same in the words of contracts
+pub or_fits : (x y : ℕ) → x < 2 ^ 40 → y < 2 ^ 40 → bit_or x y < 2 ^ 40
+or_fits x y h g = or_lt 40 x y h g
+
+pub common_le : (x y : ℕ) → bit_and x y ≤ x
+common_le x y = and_le_l x y
+
+pub within_part : (x y j : ℕ) → (bit_and x y == x) ≡ true → has j x ≡ true → has j y ≡ true
+within_part x y j t h = within_bit x y (pred j) (eqb-true _ _ t) h
+
+pub within_parts : (x y : ℕ) → ((j : ℕ) → has j x ≡ true → has j y ≡ true) → (bit_and x y == x) ≡ true
+within_parts x y f = eq-eqb _ _ (within_from x y (λ k. f (suc k)))
+
+pub disjoint_part : (x y j : ℕ) → (bit_and x y == 0) ≡ true → has j x ≡ true → has j y ≡ false
+disjoint_part x y j t h = disjoint_bit x y (pred j) t h
+
+pub disjoint_parts : (x y : ℕ) → ((j : ℕ) → has j x ≡ true → has j y ≡ false) → (bit_and x y == 0) ≡ true
+disjoint_parts x y f = disjoint_from x y (λ k. f (suc k))

@@ -7,7 +7,10 @@ use Rattle.std.proofs.lemmas.Bool.{cases_lt, cond-true, cond-false, cond_both, a
 use Rattle.states.specs.Masses.{after}
 use Rattle.states.specs.Sets.{bit, with_part, without_part}
 use Rattle.states.specs.Steps.{low, top, add_step, move_step, agreeing_masses, Leads, Parent}
-use Rattle.states.proofs.Masses.{Figures, spread}
+use Rattle.sheet.specs.Parts.{figures_of, count_of}
+use Rattle.sheet.specs.declared.sealed.Sheet.{Sheet}
+use Rattle.states.proofs.Masses.{Figures, figures_fine, spread}
+use Rattle.states.proofs.Sheets.{count_is}
 use Rattle.states.proofs.Sets.{bit_added}
 use Rattle.states.proofs.Bits.{bit_beyond, bit_highest, low_more}
 
@@ -209,54 +212,59 @@ left_is qs fig l x le =
     let e : (n - l) + l ≡ n = omega arith in
     sym (rw e at (spread qs fig l x (n - l)))
 
--- the code's values: z is what the sheet reads of x, and g its greatest part
-module _ (n x z g p : ℕ) (few : n ≤ 40) (z-is : z ≡ low n x) (g-is : g ≡ top n x) where
-  on_forty : (y : ℕ) → y < 2 ^ n → y < 2 ^ 40
-  on_forty y h = lt_of_lt_of_le h (pow_mono few)
+-- what the sheet reads is read again as it is
+pub low_low : (n x : ℕ) → low n (low n x) ≡ low n x
+low_low n x = mod-eq_of_lt (mod-lt x (pow_pos n))
 
-  pub add_fits : p ≡ 2 ^ g → g < n → z + p < 2 ^ 40
-  add_fits e h =
-      let power : p ≡ 2 ^ top n x = e ∙ ap (λ k. 2 ^ k) g-is in
-      on_forty (z + p) (omega (arith, add_within n x (omega arith)))
+pub top_low : (n x : ℕ) → top n (low n x) ≡ top n x
+top_low n x = top_is n (top n x) (low n x) (mod-lt x (pow_pos n)) (low_below n x) (low_reaches n x)
 
-  pub add_is : p ≡ 2 ^ g → z + p ≡ with_part (suc g) (low n x)
-  add_is e =
-      let power : p ≡ 2 ^ top n x = e ∙ ap (λ k. 2 ^ k) g-is in
-      rw g-is (omega (arith, add_number n x))
+-- a state z of a sheet of n parts: the number that each step gives, and that it fits
+module _ (n z : ℕ) (on_sheet : z < 2 ^ n) where
+  same_z : low n z ≡ z
+  same_z = mod-eq_of_lt on_sheet
 
-  pub move_fits : p ≡ 2 ^ (g - 1) → 0 < g → g < n → z + p < 2 ^ 40
-  move_fits e some h =
-      let m : ℕ = g - 1 in
-      on_forty (z + p) (omega (arith, move_within n x m (omega arith) (omega arith)))
+  pub add_gives : top n z < n → add_step n z ≡ (z + 2 ^ top n z) ∷ []
+  add_gives h = to_add n z (z + 2 ^ top n z) on_sheet h refl
 
-  pub move_is : p ≡ 2 ^ (g - 1) → 0 < g → z + p ≡ with_part (suc g) (without_part g (low n x))
-  move_is e some =
-      let m : ℕ = g - 1 in
-      let number : z + p ≡ with_part (suc (top n x)) (without_part (top n x) (low n x)) = omega (arith, move_number n x m (omega arith)) in
-      rw g-is number
+  pub move_gives : 0 < top n z → top n z < n → move_step n z ≡ (z + 2 ^ (top n z - 1)) ∷ []
+  move_gives some h =
+      let m : ℕ = top n z - 1 in
+      to_move n z (z + 2 ^ m) on_sheet m (omega arith) (omega arith) refl
 
-  pub low_fits : z < 2 ^ 40
-  low_fits = on_forty z (omega (arith, mod-lt x (pow_pos n)))
+  pub holds_greatest : 0 < top n z → 2 ^ (top n z - 1) ≤ z
+  holds_greatest some =
+      let m : ℕ = top n z - 1 in
+      let up : 2 ^ suc m ≤ 2 * low n z + 1 = subst (λ k. 2 ^ k ≤ 2 * low n z + 1) (let s : top n z ≡ suc m = omega arith in s) (low_reaches n z) in
+      omega (arith, two-pow-succ m, same_z)
 
-  pub holds_greatest : p ≡ 2 ^ (g - 1) → 0 < g → p ≤ z
-  holds_greatest e some =
-      let m : ℕ = g - 1 in
-      let up : 2 ^ suc m ≤ 2 * low n x + 1 = subst (λ k. 2 ^ k ≤ 2 * low n x + 1) (let s : top n x ≡ suc m = omega arith in s) (low_reaches n x) in
-      omega (arith, two-pow-succ m)
+  pub parent_is : 0 < top n z → Parent n z (back (top n z - 1) z)
+  parent_is some = parent n (top n z - 1) z on_sheet (omega arith)
 
-  pub parent_is : (r : ℕ) → p ≡ 2 ^ (g - 1) → 0 < g → r ≡ cond (ltb (z - p) (p / 2)) (z - p + p / 2) (z - p) → Parent n (low n x) r
-  parent_is r e some made =
-      let m : ℕ = g - 1 in
-      let on_sheet : z < 2 ^ n = omega (arith, mod-lt x (pow_pos n)) in
-      let same-top : top n z ≡ suc m = ap (top n) z-is ∙ top_is n (top n x) (low n x) (mod-lt x (pow_pos n)) (low_below n x) (low_reaches n x) ∙ (omega arith) in
-      let back_is : r ≡ back m z = made ∙ ap (λ q. cond (ltb (z - q) (q / 2)) (z - q + q / 2) (z - q)) e in
-      rw (← z-is, back_is) (parent n m z on_sheet same-top)
+  module _ (few : n ≤ 40) where
+    on_forty : (y : ℕ) → y < 2 ^ n → y < 2 ^ 40
+    on_forty y h = lt_of_lt_of_le h (pow_mono few)
 
-  pub parent_fits : (r : ℕ) → Parent n (low n x) r → r < 2 ^ 40
-  parent_fits r found = on_forty r found.on_sheet
+    pub add_fits : top n z < n → z + 2 ^ top n z < 2 ^ 40
+    add_fits h = on_forty _ (omega (arith, add_within n z h, same_z))
+
+    pub move_fits : 0 < top n z → top n z < n → z + 2 ^ (top n z - 1) < 2 ^ 40
+    move_fits some h =
+        let m : ℕ = top n z - 1 in
+        on_forty (z + 2 ^ m) (omega (arith, move_within n z m (omega arith) (omega arith), same_z))
+
+    pub parent_fits : 0 < top n z → back (top n z - 1) z < 2 ^ 40
+    parent_fits some = on_forty _ (parent_is some).on_sheet
 
 pub low_empty : (n x : ℕ) → top n x ≡ 0 → low n x ≡ 0
 low_empty n x e = omega (arith, rw e at (low_below n x))
+
+pub no_part : (n z : ℕ) → z < 2 ^ n → top n z ≡ 0 → z ≡ 0
+no_part n z h e = omega (arith, mod-eq_of_lt h, low_empty n z e)
+
+-- what is left after part l of a sheet, by masses
+pub left_on_sheet : (s : Sheet) (l x : ℕ) → l ≤ count_of s → after (figures_of s) l x ≡ agreeing_masses (figures_of s) l x
+left_on_sheet s l x h = left_is (figures_of s) (figures_fine s) l x (omega (arith, count_is s))
 
 -- a step from the state z of a sheet of n parts to y, place by place
 pub record Added (n z y t : ℕ) : Type 0 where

@@ -1,39 +1,15 @@
-use Rattle.std.proofs.Common.{◌≡◌, ◌<◌, length, get_or, sym, refl, ap, ◌∙◌, arith, lit≤}
-use Rattle.std.proofs.lemmas.List.{get_or-map}
-use Rattle.sheet.specs.Parts.{figures_of, figure_of, parts_of}
-use Rattle.states.specs.Masses.{total, after}
-use Rattle.states.proofs.Masses.{after_more, after_none, all_masses, figures_fine, mass_read}
-use Rattle.states.proofs.Sheets.{count_is}
-use Rattle.states.proofs.Steps.{left_is}
+use Rattle.std.proofs.Common.{◌<◌, length, get_or, ap, ◌∙◌, arith, length-take}
+use Rattle.std.proofs.lemmas.List.{get_or-take}
+use Rattle.sheet.specs.Parts.{parts_of}
+use Rattle.states.proofs.Masses.{after_part}
 use Rattle.states.proofs.state.State.left_after.Goals as goal
 
-pub loop-l-init : goal.loop-l-init
-unfolding after
-loop-l-init c = (refl, lit≤ tt)
-
-pub loop-l-preserved : goal.loop-l-preserved
-loop-l-preserved c =
-    let parts = parts_of c.args.sheet.now in
-    let l = c.loop-l.l in
-    let part = c.index-parts-l.result in
-    let read = c.index-parts-l.is ∙ ap (λ ps. get_or ps l part) c.parts-parts.ensures.value in
-    let within : l < length parts = omega arith in
-    let figure = c.failure_ppm.ensures.value ∙ ap figure_of read ∙ sym (get_or-map figure_of parts l part 0 within) in
-    (after_more _ l _ _ _ _ figure c.loop-l.invariant.0 c.remaining-left.ensures.value, omega arith)
-
-pub returns : goal.returns
-returns c =
-    let s = c.args.sheet.now in
-    let count = c.args.count in
-    let all : c.loop-l.l ≡ count = omega arith in
-    let value : c.loop-l.left ≡ after (figures_of s) count c.args.self.number = c.loop-l.invariant.0 ∙ ap (λ l. after (figures_of s) l c.args.self.number) all in
-    let none : count ≡ 0 → c.loop-l.left ≡ total = λ e. value ∙ ap (λ l. after (figures_of s) l c.args.self.number) e ∙ after_none (figures_of s) c.args.self.number in
-    record {
-      value = value;
-      before = none;
-      all_states = λ e. none e ∙ sym (all_masses s);
-      as_read = λ e. value ∙ ap (λ l. after (figures_of s) l c.args.self.number) (e ∙ sym (count_is s)) ∙ sym (mass_read s c.args.self.number);
-      whole = λ e. value ∙ ap (λ l. after (figures_of s) l c.args.self.number) (e ∙ sym (count_is s));
-      masses = value ∙ left_is (figures_of s) (figures_fine s) count c.args.self.number (omega (arith, count_is s));
-      bound = c.loop-l.invariant.1;
-    }
+pub loop-place-preserved : goal.loop-place-preserved
+loop-place-preserved c =
+    let place = c.loop-place.place in
+    let part = c.part-item.result in
+    let early : place < c.args.count = omega (arith, length-take c.args.count c.parts.result.now) in
+    let known : place < length (parts_of c.args.sheet.now) = omega arith in
+    let read = c.part-item.is ∙ get_or-take c.args.count c.parts.result.now place part early ∙ ap (λ ps. get_or ps place part) c.parts.ensures.value in
+    let next = after_part (parts_of c.args.sheet.now) place c.args.self.number part known read in
+    (grind (arith, next), omega arith)

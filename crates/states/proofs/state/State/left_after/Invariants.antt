@@ -3,5 +3,5 @@ use Rattle.sheet.specs.Parts.{figures_of}
 use Rattle.states.specs.Masses.{total, after}
 use Rattle.states.proofs.state.State.left_after.Given as goal
 
-abbrev pub invariant-loop-l : goal.invariant-loop-l
-invariant-loop-l l = (l.left ≡ after (figures_of l.sheet) l.l l.self.number) × (l.left ≤ total)
+abbrev pub invariant-loop-place : goal.invariant-loop-place
+invariant-loop-place l = (l.left ≡ after (figures_of l.sheet) l.place l.self.number) × (l.left ≤ total)
