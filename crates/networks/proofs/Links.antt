@@ -1,39 +1,33 @@
 -- A pass over the links of a network. Assumes nothing.
-use Rattle.std.proofs.Common.{◌≡◌, ℕ, ◌+◌, ◌<◌, ◌≤◌, Bool, false, ◌||◌, List, [], ◌∷◌, ◌++◌, map, length, get_or, take, drop, sym, ap, ◌∙◌}
-use Rattle.std.proofs.lemmas.List.{at_drop_more, at_drop_all, get_or-map, length-map, map_push, take_more}
-use Rattle.std.proofs.lemmas.Bool.{or_parts}
-use Rattle.networks.specs.Networks.{some_link, link_of, over_link, one_round}
+use Rattle.std.proofs.Common.{◌≡◌, ℕ, ◌<◌, Bool, true, false, List, [], ◌∷◌, ◌++◌, map, length, get_or, refl, ap, sym, ◌∙◌}
+use Rattle.std.specs.List.{list_any}
+use Rattle.std.proofs.lemmas.List.Folds.{list_any_at}
+use Rattle.std.proofs.lemmas.List.{map_push}
+use borrow.Author.Tests.{clash}
+use Rattle.networks.specs.Networks.{over_link, one_round, link_of, links_of, network_works}
+use Rattle.networks.specs.Rounds.{walk_works, known_wires}
+use Rattle.networks.specs.Walks.{Walk}
 use Rattle.networks.specs.declared.link.Link.{Link}
-use Rattle.networks.specs.declared.network.Wire.{Wire}
+use Rattle.networks.specs.declared.network.Network.{Network}
+use Rattle.networks.specs.declared.wire.Wire.{Wire}
 
--- whether some link is so, from place i on
-module _ (test : Link → Bool) (ls : List Link) (i : ℕ) where
-  pub one_link : (d : Link) → i < length ls → some_link test (drop i ls) ≡ (test (get_or ls i d) || some_link test (drop (i + 1) ls))
-  one_link d h = at_drop_more (some_link test) ls i d h
+-- where no link passes a test, one at a place does not
+pub none_at : (test : Link → Bool) (ls : List Link) (i : ℕ) (d : Link) → list_any test ls ≡ false → i < length ls → test (get_or ls i d) ≡ false
+none_at test ls i d none inside = go (test (get_or ls i d)) refl
+  where
+    go : (b : Bool) → test (get_or ls i d) ≡ b → b ≡ false
+    go true passes = absurd (clash (sym none ∙ list_any_at test ls i d inside passes))
+    go false fails = refl
 
-  pub no_link : length ls ≤ i → some_link test (drop i ls) ≡ false
-  no_link h = at_drop_all (some_link test) ls i h
+-- one link more
+round_more : (x : ℕ) (ls : List Link) (l : Link) (s : ℕ) → one_round x (ls ++ l ∷ []) s ≡ over_link x l (one_round x ls s)
+round_more x [] l s = refl
+round_more x (first ∷ ls) l s = round_more x ls l (over_link x first s)
 
-  pub none_is : (d : Link) → i < length ls → some_link test (drop i ls) ≡ false → (test (get_or ls i d) ≡ false) × (some_link test (drop (i + 1) ls) ≡ false)
-  none_is d h none = or_parts (test (get_or ls i d)) (some_link test (drop (i + 1) ls)) (sym (one_link d h) ∙ none)
+pub round_over : (x : ℕ) (wires : List Wire) (wire : Wire) (s t u : ℕ) → t ≡ one_round x (map link_of wires) s → u ≡ over_link x (link_of wire) t → u ≡ one_round x (map link_of (wires ++ wire ∷ [])) s
+round_over x wires wire s t u before after =
+    after ∙ ap (over_link x (link_of wire)) before ∙ sym (round_more x (map link_of wires) (link_of wire) s) ∙ ap (λ ls. one_round x ls s) (sym (map_push link_of wires wire))
 
--- one link more of which a typed one is made
-pub one_wire : (ls : List Link) (i : ℕ) (d : Link) (wires before : List Wire) (w : Wire) → wires ≡ before ++ w ∷ [] → map link_of before ≡ take i ls
-    → i < length ls → link_of w ≡ get_or ls i d → map link_of wires ≡ take (i + 1) ls
-one_wire ls i d wires before w pushed inv h made =
-    ap (map link_of) pushed ∙ map_push link_of before w
-    ∙ ap (λ ys. ys ++ link_of w ∷ []) inv
-    ∙ ap (λ l. take i ls ++ l ∷ []) made
-    ∙ sym (take_more ls i d h)
-
--- a round from place i on
-module _ (ws : List Wire) (x i s : ℕ) where
-  pub one_over : (w : Wire) → i < length ws → w ≡ get_or ws i w
-      → one_round x (drop i (map link_of ws)) s ≡ one_round x (drop (i + 1) (map link_of ws)) (over_link x (link_of w) s)
-  one_over w h read =
-      let inside : i < length (map link_of ws) = simp length-map h in
-      at_drop_more (λ ls. one_round x ls s) (map link_of ws) i (link_of w) inside
-      ∙ ap (λ l. one_round x (drop (i + 1) (map link_of ws)) (over_link x l s)) (get_or-map link_of ws i w (link_of w) h ∙ ap link_of (sym read))
-
-  pub round_over : length ws ≤ i → one_round x (drop i (map link_of ws)) s ≡ s
-  round_over h = let all : length (map link_of ws) ≤ i = simp length-map h in at_drop_all (λ ls. one_round x ls s) (map link_of ws) i all
+-- the terminals of a network that a walk joins are joined by its rounds
+pub walk_joins : (net : Network) (x : ℕ) → Walk (links_of net) x net.from.number net.to.number → network_works net.from.number net.to.number (links_of net) x ≡ true
+walk_joins net x w = walk_works _ _ _ _ (known_wires net.wires.items) net.from.known w

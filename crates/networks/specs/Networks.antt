@@ -1,10 +1,11 @@
 -- What a network means, and what its making answers. Assumes nothing.
-use Rattle.std.specs.Prelude.{◌≡◌, ℕ, zero, suc, ◌^◌, Bool, false, cond, not, ◌&&◌, ◌||◌, List, [], ◌∷◌, map, length, Ok, Err, vec_items, Result, bit_or, nat_lt}
+use Rattle.std.specs.Prelude.{◌≡◌, ℕ, zero, suc, ◌^◌, Bool, cond, not, ◌&&◌, ◌||◌, List, [], ◌∷◌, map, length, Ok, Err, vec_items, Result, bit_or, nat_lt}
+use Rattle.std.specs.List.{list_any}
 use Rattle.states.specs.Sets.{bit, has}
 use Rattle.networks.specs.Refusals.{network_refusal}
 use Rattle.networks.specs.declared.link.Link.{Link}
 use Rattle.networks.specs.declared.network.Network.{Network}
-use Rattle.networks.specs.declared.network.Wire.{Wire}
+use Rattle.networks.specs.declared.wire.Wire.{Wire}
 use Rattle.networks.specs.declared.refusal.NetworkError.{NetworkError}
 
 -- a set of masts has a binary place for each: the set with the mast m as well
@@ -50,21 +51,16 @@ end_too_high l = nat_lt 15 l.one || nat_lt 15 l.other
 abbrev pub part_unknown : Link → Bool
 part_unknown l = nat_lt l.part 1 || nat_lt 40 l.part
 
--- some link is so
-abbrev pub some_link : (Link → Bool) → List Link → Bool
-some_link test [] = false
-some_link test (l ∷ ls) = test l || some_link test ls
-
 -- a terminal or an end of some link is above 15
 abbrev pub some_mast_too_high : ℕ → ℕ → List Link → Bool
-some_mast_too_high from to links = nat_lt 15 from || (nat_lt 15 to || some_link end_too_high links)
+some_mast_too_high from to links = nat_lt 15 from || (nat_lt 15 to || list_any end_too_high links)
 
 -- the refusal that terminals and links meet; [] where they are a network
 abbrev pub network_refused : ℕ → ℕ → List Link → List ℕ
 network_refused from to links =
     cond (nat_lt 64 (length links)) (8 ∷ [])
     (cond (some_mast_too_high from to links) (9 ∷ [])
-    (cond (some_link part_unknown links) (10 ∷ []) []))
+    (cond (list_any part_unknown links) (10 ∷ []) []))
 
 -- a network is made of these terminals and links, or refused, for their fault or for want of memory
 abbrev pub Wired : ℕ → ℕ → List Link → Result Network NetworkError → Type 0

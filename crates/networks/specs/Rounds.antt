@@ -11,7 +11,7 @@ use Rattle.networks.specs.Networks.{with_mast, leads_on, over_link, one_round, r
 use Rattle.networks.specs.Walks.{Ends, Joined, Walk}
 use Rattle.networks.specs.Walks.Walk.{here, on}
 use Rattle.networks.specs.declared.link.Link.{Link}
-use Rattle.networks.specs.declared.network.Wire.{Wire}
+use Rattle.networks.specs.declared.wire.Wire.{Wire}
 use Rattle.networks.specs.Masts.{bit_itself, bit_kept, bit_alone, bit_cases, with_same}
 
 -- one round more

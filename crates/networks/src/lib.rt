@@ -3,8 +3,10 @@
 
 mod link;
 mod mast;
+mod masts;
 mod network;
 mod refusal;
+mod wire;
 
 pub use link::Link;
 pub use network::Network;

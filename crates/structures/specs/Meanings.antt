@@ -1,13 +1,17 @@
 -- What each structure and layer means: whether the station works in the state x. Assumes nothing.
-use Rattle.std.specs.Prelude.{ℕ, zero, suc, ◌+◌, Bool, false, cond, not, ◌&&◌, ◌||◌, List, [], ◌∷◌, nat_le}
-use Rattle.states.specs.Sets.{has, with_part, without_part, disjoint}
+use Rattle.std.specs.Prelude.{◌≡◌, ℕ, zero, suc, ◌+◌, ◌^◌, ◌<◌, Bool, true, cond, not, ◌&&◌, ◌||◌, List, nat_le}
+use Rattle.std.specs.List.{list_any}
+use Rattle.states.specs.Sets.{has, with_part, without_part, disjoint, Within}
 use Rattle.structures.specs.declared.given.Condition.{Condition}
 use Rattle.structures.specs.declared.given.Condition.TheVariants.{Sound, Failed}
 
+-- the law of structures: every state contained in a working state works
+abbrev pub KeepsContained : (ℕ → Bool) → Type 0
+KeepsContained works = (x y : ℕ) → y < 2 ^ 40 → Within x y → works y ≡ true → works x ≡ true
+
 -- path list: all parts of some path are sound
 abbrev pub path_list_works : List ℕ → ℕ → Bool
-path_list_works [] x = false
-path_list_works (path ∷ paths) x = disjoint path x || path_list_works paths x
+path_list_works paths x = list_any (λ path. disjoint path x) paths
 
 -- how many of parts 1 to n are in the set and sound in x
 unfoldable pub sound_parts : ℕ → ℕ → ℕ → ℕ

@@ -5,7 +5,7 @@ use borrow.Author.Tests.{le-leb, leb-true, clash}
 use Rattle.std.proofs.lemmas.Bool.{and_parts, and_from, or_cases, or_left, or_right, not-true, not_from_false}
 use Rattle.states.specs.Sets.{bit, has, disjoint, difference, size, Within}
 use Rattle.states.proofs.Sets.{disjoint_within, sound_within, within_bit, with_within, without_within, with_fits, without_fits, bit_difference}
-use Rattle.structures.specs.Meanings.{path_list_works, sound_parts, quorum_works, feed_works, bypass_works, given_state}
+use Rattle.structures.specs.Meanings.{KeepsContained, path_list_works, sound_parts, quorum_works, feed_works, bypass_works, given_state}
 use Rattle.structures.specs.declared.given.Condition.{Condition}
 use Rattle.structures.specs.declared.given.Condition.TheVariants.{Sound, Failed}
 
@@ -29,8 +29,7 @@ bypass_contained part below x y w lower h =
 
 -- a structure asked at states that a map which keeps containment and the bound passes down keeps the law
 pub mapped_contained : (f : ℕ → ℕ) (below : ℕ → Bool) → ((x y : ℕ) → Within x y → Within (f x) (f y)) → ((x : ℕ) → x < 2 ^ 40 → f x < 2 ^ 40)
-    → ((x y : ℕ) → y < 2 ^ 40 → Within x y → below y ≡ true → below x ≡ true)
-    → (x y : ℕ) → y < 2 ^ 40 → Within x y → below (f y) ≡ true → below (f x) ≡ true
+    → KeepsContained below → KeepsContained (λ x. below (f x))
 mapped_contained f below keeps fits law x y h w = law (f x) (f y) (fits y h) (keeps x y w)
 
 pub given_within : (c : Condition) (part x y : ℕ) → Within x y → Within (given_state c part x) (given_state c part y)

@@ -2,49 +2,16 @@ ghost use Rattle.std.specs.Prelude.{◌≡◌};
 ghost use Rattle.structures.specs.Meanings.{given_state, given_works};
 ghost use Rattle.structures.specs.MeaningsLemmas.{mapped_contained, given_within, given_fits};
 
+use crate::effect::Effect;
 use crate::structure::Structure;
 use sheet::PartNumber;
 use states::State;
 
-// What a part is given as.
+// What a part is given as. A layer of this effect answers as the one below, at the state with its part in this condition.
 #[derive(Clone, Copy, Debug, PartialEq, Eq)]
 pub enum Condition {
     Sound,
     Failed,
-}
-
-// A layer: replaces its part by sound, or by failed, and then answers as the one below.
-#[derive(Drop)]
-pub struct Given<S> {
-    part: PartNumber,
-    condition: Condition,
-    below: S,
-}
-
-impl<S> Given<S> {
-    pub fn new(part: PartNumber, condition: Condition, below: S) -> Given<S>
-        ensures part { result.part ≡ part }
-        ensures condition { result.condition ≡ condition }
-        ensures below { result.below ≡ below }
-    {
-        Given {
-            part,
-            condition,
-            below,
-        }
-    }
-
-    // The structure below.
-    pub fn into_below(self) -> S
-        ensures { result ≡ self.below }
-    {
-        let Given {
-            part: _,
-            condition: _,
-            below,
-        } = self;
-        below
-    }
 }
 
 impl Condition {
@@ -59,15 +26,12 @@ impl Condition {
     }
 }
 
-impl<S: Structure> Structure for Given<S> {
-    ghost works = { λ given x. given_works given.condition given.part.number (S.Structure.works given.below) x };
+impl Effect for Condition {
+    ghost layered = { λ condition part below x. given_works condition part below x };
 
-    ghost contained = { λ s x y h w.
-        let part = s.part.number in
-        mapped_contained (given_state s.condition part) (S.Structure.works s.below) (given_within s.condition part)
-        (given_fits s.condition part s.part.to_forty) (S.Structure.contained s.below) x y h w };
+    ghost keeps = { λ c part below law. mapped_contained (given_state c part.number) below (given_within c part.number) (given_fits c part.number part.to_forty) law };
 
-    fn works_in(&self, state: State) -> bool {
-        self.below.works_in(self.condition.put(self.part, state))
+    fn works_in<S: Structure>(&self, part: PartNumber, below: &S, state: State) -> bool {
+        below.works_in(self.put(part, state))
     }
 }

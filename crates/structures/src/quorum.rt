@@ -26,6 +26,7 @@ impl Quorum {
 }
 
 // How many parts of the set are sound.
+#[tactic(auto, using(crate::specs::MeaningsLemmas::sound_size))]
 fn sound(set: State, state: State) -> u32
     ensures { result ≡ sound_parts 40 set.number state.number }
 {
@@ -38,6 +39,6 @@ impl Structure for Quorum {
     ghost contained = { λ s x y h w. quorum_contained s.count s.set.number x y w };
 
     fn works_in(&self, state: State) -> bool {
-        self.count <= sound(self.set, state) as u64
+        self.count <= u64::from(sound(self.set, state))
     }
 }

@@ -1,5 +1,5 @@
-ghost use Rattle.std.specs.Prelude.{◌≡◌, ℕ, ◌^◌, ◌<◌, Bool, true};
-ghost use Rattle.states.specs.Sets.{Within};
+ghost use Rattle.std.specs.Prelude.{◌≡◌, ℕ, Bool};
+ghost use Rattle.structures.specs.Meanings.{KeepsContained};
 
 use states::State;
 
@@ -12,5 +12,5 @@ pub trait Structure {
         ensures { result ≡ works self.now state.number };
 
     // Every state contained in a working state works.
-    ghost contained: { (s : Self) (x y : ℕ) → y < 2 ^ 40 → Within x y → works s y ≡ true → works s x ≡ true };
+    ghost contained: { (s : Self) → KeepsContained (works s) };
 }

@@ -1,39 +1,30 @@
-use anyhow::anyhow;
 use sheet::{Draft, PartNumber, Sheet};
 use std::alloc::Global;
-use structures::{Feed, PathList};
+use structures::{Feed, Layer, PathList};
+
+// A sheet of parts, and paths behind a power feed over them.
+type Station = (Sheet, Layer<Feed, PathList>);
 
 // A station of this feed over these paths, on a sheet of parts with these grades and prices.
-fn station(
-    heap: Global,
-    parts: &[(u8, u32)],
-    paths: &[u64],
-    feed: u8,
-) -> anyhow::Result<(Sheet, Feed<PathList>)> {
+fn station(heap: Global, parts: &[(u8, u32)], paths: &[u64], feed: u8) -> anyhow::Result<Station> {
     let mut draft = Draft::new(heap);
-    for (grade, cents) in parts {
-        let Ok(_) = draft.add(*grade, *cents) else {
-            return Err(anyhow!("a part was refused"));
-        };
+    for &(grade, cents) in parts {
+        draft.add(grade, cents)?;
     }
-    let Ok(part) = PartNumber::new(feed) else {
-        return Err(anyhow!("the feed is no part number"));
-    };
-    let Ok(list) = PathList::new(heap, paths) else {
-        return Err(anyhow!("the paths were refused"));
-    };
-    Ok((draft.seal(), Feed::new(part, list)))
+    let feed = PartNumber::try_from(feed)?;
+    let list = PathList::new(heap, paths)?;
+    Ok((draft.seal(), Layer::new(feed, Feed, list)))
 }
 
 // Two radios, either of which serves, behind one power feed.
-pub(crate) fn small_station(heap: Global) -> anyhow::Result<(Sheet, Feed<PathList>)> {
+pub(crate) fn small_station(heap: Global) -> anyhow::Result<Station> {
     let parts = [(7, 64_000), (7, 64_000), (17, 9_500)];
     station(heap, &parts, &[0b001, 0b010], 3)
 }
 
 // Two radios (parts 1 and 2), each with an amplifier of its own (3 and 4) and the spare amplifier (5) for either, two fans
 // (6 and 7) of which one must run, a controller (8) that every path needs, and the power feed (9).
-pub(crate) fn cabinet(heap: Global) -> anyhow::Result<(Sheet, Feed<PathList>)> {
+pub(crate) fn cabinet(heap: Global) -> anyhow::Result<Station> {
     let parts = [
         (5, 182_000),
         (5, 182_000),

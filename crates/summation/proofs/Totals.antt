@@ -1,5 +1,5 @@
 -- One state more, and all states. Assumes nothing.
-use Rattle.std.proofs.Common.{◌≡◌, ℕ, ◌+◌, ◌*◌, ◌%◌, ◌^◌, ◌<◌, ◌≤◌, Bool, cond, List, length, sym, ap, ◌∙◌, ap₂, mod-eq_of_lt, arith}
+use Rattle.std.proofs.Common.{◌≡◌, ℕ, ◌+◌, ◌*◌, ◌%◌, ◌^◌, ◌<◌, ◌≤◌, Bool, cond, length, sym, ap, ◌∙◌, ap₂, lt_of_lt_of_le, mod-eq_of_lt, arith, pow_mono}
 use Rattle.std.proofs.lemmas.Nat.{one_shl}
 use Rattle.sheet.specs.Parts.{figures_of, count_of}
 use Rattle.sheet.specs.declared.sealed.Sheet.{Sheet}
@@ -15,20 +15,25 @@ use Rattle.structures.proofs.Reliability.{both_sums}
 pub all_numbers : (s : Sheet) (n : ℕ) → n ≡ count_of s → n ≤ 20 → 1 * 2 ^ n % 2 ^ 64 ≡ 2 ^ length (figures_of s)
 all_numbers s n e few = one_shl n 64 (omega arith) ∙ ap (λ k. 2 ^ k) (e ∙ sym (count_is s))
 
-module _ (works : ℕ → Bool) (qs : List ℕ) (i x m s r : ℕ) (b : Bool) (within : i < 2 ^ length qs) (x-is : x ≡ i) (m-is : m ≡ mass qs x) (b-is : b ≡ works x) where
-  verdict : b ≡ works (i % 2 ^ length qs)
-  verdict = b-is ∙ ap works (x-is ∙ sym (mod-eq_of_lt within))
+-- one state of the sheet more: what a number makes it is that number
+module _ (works : ℕ → Bool) (s : Sheet) (i : ℕ) (within : i < 2 ^ length (figures_of s)) where
+  same : i % 2 ^ 40 ≡ i % 2 ^ length (figures_of s)
+  same =
+      let few : length (figures_of s) ≤ 40 = omega (arith, count_is s) in
+      mod-eq_of_lt (lt_of_lt_of_le within (pow_mono few)) ∙ sym (mod-eq_of_lt within)
 
-  weight : m ≡ mass qs i
-  weight = m-is ∙ ap (mass qs) x-is
+  itself : i % 2 ^ 40 ≡ i
+  itself = same ∙ mod-eq_of_lt within
 
-  pub one_working : s ≡ sum_below i (working_mass works qs) → r ≡ s + cond b m 0 → r ≡ sum_below (i + 1) (working_mass works qs)
-  one_working before after =
-      after ∙ ap₂ (◌+◌) before (ap₂ (λ c w. cond c w 0) verdict weight) ∙ sum_more i (working_mass works qs)
+  pub working_more : sum_below (i + 1) (working_mass works (figures_of s)) ≡ sum_below i (working_mass works (figures_of s)) + cond (works (i % 2 ^ 40)) (mass (figures_of s) (i % 2 ^ 40)) 0
+  working_more =
+      sym (sum_more i (working_mass works (figures_of s)))
+      ∙ ap (λ w. sum_below i (working_mass works (figures_of s)) + w) (ap₂ (λ x y. cond (works x) (mass (figures_of s) y) 0) (sym same) (sym itself))
 
-  pub one_failing : s ≡ sum_below i (failing_mass works qs) → r ≡ s + cond b 0 m → r ≡ sum_below (i + 1) (failing_mass works qs)
-  one_failing before after =
-      after ∙ ap₂ (◌+◌) before (ap₂ (λ c w. cond c 0 w) verdict weight) ∙ sum_more i (failing_mass works qs)
+  pub failing_more : sum_below (i + 1) (failing_mass works (figures_of s)) ≡ sum_below i (failing_mass works (figures_of s)) + cond (works (i % 2 ^ 40)) 0 (mass (figures_of s) (i % 2 ^ 40))
+  failing_more =
+      sym (sum_more i (failing_mass works (figures_of s)))
+      ∙ ap (λ w. sum_below i (failing_mass works (figures_of s)) + w) (ap₂ (λ x y. cond (works x) 0 (mass (figures_of s) y)) (sym same) (sym itself))
 
 -- the sums so far stay within the total
 module _ (works : ℕ → Bool) (sh : Sheet) (i u d : ℕ) (up : u ≡ sum_below i (working_mass works (figures_of sh))) (down : d ≡ sum_below i (failing_mass works (figures_of sh))) where

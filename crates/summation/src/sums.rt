@@ -1,6 +1,8 @@
 ghost use Rattle.std.specs.Prelude.{◌≡◌, ◌+◌, ◌*◌, ◌/◌, ◌^◌, ◌<◌, if◌then◌else◌};
 ghost use Rattle.states.specs.Masses.{total};
 
+use thiserror::Error;
+
 // The masses of all states in which the station works, and of all in which it fails, out of 10^18.
 #[derive(Clone, Copy, Debug, PartialEq, Eq)]
 pub struct Sums {
@@ -9,9 +11,10 @@ pub struct Sums {
 }
 
 // Why states were not summed.
-#[derive(Clone, Copy, Debug, PartialEq, Eq)]
+#[derive(Clone, Copy, Debug, PartialEq, Eq, Error)]
 pub enum SumError {
-    // More than 20 parts, so more than a million states.
+    // So more than a million states.
+    #[error("more than 20 parts")]
     TooManyParts,
 }
 
@@ -25,12 +28,12 @@ impl Sums {
         if works {
             Sums {
                 working: self.working + mass,
-                failing: self.failing,
+                ..self
             }
         } else {
             Sums {
-                working: self.working,
                 failing: self.failing + mass,
+                ..self
             }
         }
     }

@@ -1,5 +1,0 @@
-use Rattle.worked_cases.proofs.Worked.{worked}
-use Rattle.worked_cases.proofs.worked_cases.Goals as goal
-
-pub returns : goal.returns
-returns c = worked
