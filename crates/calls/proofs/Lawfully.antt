@@ -7,9 +7,9 @@ use Rattle.std.proofs.lemmas.Bool.{cases_eq, or_cases}
 use Rattle.states.specs.Lists.{In}
 use Rattle.states.specs.Masses.{total}
 use Rattle.states.specs.Sums.{sum_below, sum_of}
-use Rattle.states.specs.Trees.{in_tree, cone_sum}
+use Rattle.states.specs.Trees.{in_tree, cone_sum, tree_sum}
 use Rattle.states.proofs.Lists.{all_in, sum_of_le}
-use Rattle.states.proofs.Trees.{cone_contains, cone_step}
+use Rattle.states.proofs.Trees.{cone_contains, cone_step, tree_step}
 use Rattle.rankings.specs.Orders.{ahead, StrictOrder}
 use Rattle.rankings.proofs.Orders.{strict_order}
 use Rattle.rankings.proofs.Trees.{root_first}
@@ -45,6 +45,14 @@ taken_each w xs on =
     one : (x : ℕ) → OnSheet w x → (b : Bool) → 1 ≤ cond b 1 (cone_sum (parts w) (λ y. 1) x)
     one x x_on true = omega arith
     one x x_on false = omega (arith, cone_step (parts w) x (λ y. 1) x_on)
+
+-- once as many states were handed out as the sheet has, nothing waits
+pub all_out : (w : Station) (xs : List ℕ) (l : Memory) → Kept w xs l → length xs ≡ 2 ^ parts w → l.waiting ≡ []
+all_out w xs l k e = none_left l.waiting k.waiting_on_sheet (omega (arith, taken_each w xs k.on_sheet, k.accounts (λ x. 1), ones_below (2 ^ parts w)))
+  where
+    none_left : (zs : List ℕ) → AllByRecursion (OnSheet w) zs → sum_of (tree_sum (parts w) (λ x. 1)) zs ≡ 0 → zs ≡ []
+    none_left [] on h = refl
+    none_left (z ∷ zs) on h = absurd (omega (arith, tree_step (parts w) z (λ x. 1) on.0))
 
 -- all that lasts from call to call
 pub record Lasting (w : Station) (xs : List ℕ) (f : Bool) (l : Memory) : Type 0 where

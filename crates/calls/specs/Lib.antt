@@ -7,3 +7,4 @@ pub mod Refusals
 pub mod Replays
 pub mod Replies
 pub mod Stations
+pub mod Words

@@ -1,9 +1,8 @@
 -- What each answer of the code stands for: its number or its values. Assumes nothing.
-use Rattle.std.specs.Prelude.{Ok, Err, Result}
+use Rattle.std.specs.Prelude.{Some, None, Ok, Err, Option, Result}
 use Rattle.calls.specs.Handing.{NextAnswer, handed_out, finished, full}
 use Rattle.calls.specs.Calls.{Said, next_said, run_said, run_refused, figures_said}
-use Rattle.calls.specs.declared.answers.Answer.{Answer}
-use Rattle.calls.specs.declared.answers.Answer.TheVariants as answer
+use Rattle.calls.specs.declared.answers.Handed.{Handed}
 use Rattle.calls.specs.declared.answers.Ran.{Ran}
 use Rattle.calls.specs.declared.answers.Reply.{Reply}
 use Rattle.calls.specs.declared.answers.Reply.TheVariants as reply
@@ -11,9 +10,9 @@ use Rattle.calls.specs.declared.refusal.Full.{Full}
 use Rattle.calls.specs.declared.refusal.RunError.{RunError}
 
 -- an answer of next: the state's number and its verdict, or 'finished', or refused
-abbrev pub next_answer : Result Answer Full → NextAnswer
-next_answer (Ok (answer.Handed state verdict)) = handed_out state.number verdict
-next_answer (Ok answer.Finished) = finished
+abbrev pub next_answer : Result (Option Handed) Full → NextAnswer
+next_answer (Ok (Some h)) = handed_out h.state.number h.verdict
+next_answer (Ok None) = finished
 next_answer (Err e) = full
 
 -- an answer of run: how it ended and its count, or refused

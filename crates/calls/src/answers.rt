@@ -8,11 +8,11 @@ pub enum Verdict {
     Down,
 }
 
-// What next answers: a state with its verdict, or that nothing waits.
-#[derive(Clone, Copy)]
-pub enum Answer {
-    Handed(State, Verdict),
-    Finished,
+// A state that next handed out, with its verdict.
+#[derive(Clone, Copy, PartialEq, Eq)]
+pub struct Handed {
+    pub state: State,
+    pub verdict: Verdict,
 }
 
 // How a run ended.
@@ -25,7 +25,7 @@ pub enum Ending {
 }
 
 // What a run answers: how it ended, and how many states it handed out itself.
-#[derive(Clone, Copy)]
+#[derive(Clone, Copy, Debug, PartialEq, Eq)]
 pub struct Ran {
     pub ending: Ending,
     pub count: u64,
@@ -42,23 +42,24 @@ pub struct Figures {
 }
 
 // A call of a listing; a run with its target in parts per million and its budget of states.
-#[derive(Clone, Copy)]
+#[derive(Clone, Copy, Debug, PartialEq, Eq)]
 pub enum Call {
     Next,
-    Run(u32, u64),
+    Run { target: u32, budget: u64 },
     Figures,
 }
 
 // What a call answered.
-#[derive(Clone, Copy)]
+#[derive(Clone, Copy, PartialEq, Eq)]
 pub enum Reply {
-    Next(Result<Answer, Full>),
+    // None says 'finished': nothing waited.
+    Next(Result<Option<Handed>, Full>),
     Run(Result<Ran, RunError>),
     Figures(Figures),
 }
 
 // What a call answered, and the figures after it.
-#[derive(Clone, Copy)]
+#[derive(Clone, Copy, PartialEq, Eq)]
 pub struct Replied {
     pub reply: Reply,
     pub figures: Figures,

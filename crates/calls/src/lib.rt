@@ -4,6 +4,7 @@
 
 mod answers;
 mod refusal;
+mod words;
 
-pub use answers::{Answer, Call, Ending, Figures, Ran, Replied, Reply, Verdict};
+pub use answers::{Call, Ending, Figures, Handed, Ran, Replied, Reply, Verdict};
 pub use refusal::{Full, RunError};

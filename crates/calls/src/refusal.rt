@@ -1,35 +1,36 @@
-ghost use Rattle.std.specs.Prelude.{◌≡◌};
-ghost use Rattle.sheet.specs.Refusals.{number_of};
 ghost use Rattle.calls.specs.Refusals.{full_refusal, run_refusal};
 
-// Why next refused: more than 1,024 states would wait.
-#[derive(Clone, Copy, Debug, PartialEq, Eq)]
+use sheet::RefusalNumber;
+use thiserror::Error;
+
+// Why next refused.
+#[derive(Clone, Copy, Debug, PartialEq, Eq, Error)]
 pub enum Full {
+    #[error("more than 1,024 states would wait")]
     TooManyWait,
 }
 
-impl Full {
-    // The refusal's number.
-    pub fn number(self) -> Option<u8>
-        ensures { result ≡ number_of (full_refusal self) }
-    {
+impl RefusalNumber for Full {
+    ghost values = { full_refusal };
+
+    fn number(self) -> Option<u8> {
         match self {
             Full::TooManyWait => Some(11),
         }
     }
 }
 
-// Why a run was refused: a target above 1,000,000 parts per million.
-#[derive(Clone, Copy, Debug, PartialEq, Eq)]
+// Why a run was refused.
+#[derive(Clone, Copy, Debug, PartialEq, Eq, Error)]
 pub enum RunError {
+    #[error("the target is above 1,000,000 parts per million")]
     TargetTooHigh,
 }
 
-impl RunError {
-    // The refusal's number.
-    pub fn number(self) -> Option<u8>
-        ensures { result ≡ number_of (run_refusal self) }
-    {
+impl RefusalNumber for RunError {
+    ghost values = { run_refusal };
+
+    fn number(self) -> Option<u8> {
         match self {
             RunError::TargetTooHigh => Some(12),
         }

@@ -1,10 +1,8 @@
-pub mod Accounts
-pub mod Best
-pub mod Bounds
+pub mod Behind
+pub mod Calling
 pub mod Entries
-pub mod Insertion
-pub mod Invariant
-pub mod Lawfully
+pub mod Opening
+pub mod Queues
+pub mod Running
 pub mod Sorting
-pub mod Sources
-pub mod Unique
+pub mod Turns

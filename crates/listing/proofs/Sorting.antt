@@ -1,16 +1,41 @@
--- Waiting states kept in order, the foremost last. Assumes nothing.
-use Rattle.std.proofs.Common.{ℕ, List, [], ◌∷◌, ◌++◌, take, drop, refl, ap, subst, inl, inr, ⊎_elim, arith, take-append-drop}
+-- Lists of numbers each of which is so related to all later ones. Assumes nothing.
+use Rattle.std.proofs.Common.{ℕ, zero, suc, ◌<◌, ◌≤◌, List, [], ◌∷◌, ◌++◌, length, get_or, take, drop, subst, refl, ap, inl, inr, ⊎_elim, arith, take-append-drop, le_of_suc-le-suc, not-suc-le-zero}
 use Rattle.std.specs.List.{insert, AllByRecursion}
 use Rattle.states.specs.Lists.{In, Pairwise, Same}
 use Rattle.states.specs.Sums.{sum_of}
 use Rattle.states.proofs.Lists.{in_append_left, in_append_right, in_append_cases, all_in, all_from_in, sum_of_append}
-use Rattle.listing.specs.Stations.{Station, Ahead}
+
+pub in_front : (zs : List ℕ) (i y : ℕ) → In y (take i zs) → In y zs
+in_front zs i y j = subst (λ v. In y v) (take-append-drop i zs) (in_append_left (take i zs) (drop i zs) y j)
+
+pub in_at : (zs : List ℕ) (i : ℕ) → i < length zs → In (get_or zs i 0) zs
+in_at [] i h = absurd (not-suc-le-zero h)
+in_at (z ∷ zs) zero h = inl refl
+in_at (z ∷ zs) (suc i) h = inr (in_at zs i (le_of_suc-le-suc h))
+
+-- what holds at each place of the front, or of the rest
+pub all_take : (P : ℕ → Type 0) (zs : List ℕ) (i : ℕ) → ((k : ℕ) → k < i → k < length zs → P (get_or zs k 0)) → AllByRecursion P (take i zs)
+all_take P zs zero f = tt
+all_take P [] (suc i) f = tt
+all_take P (z ∷ zs) (suc i) f = (f 0 (omega arith) (omega arith), all_take P zs i (λ k h w. f (suc k) (omega arith) (omega arith)))
+
+pub all_drop : (P : ℕ → Type 0) (zs : List ℕ) (i : ℕ) → ((k : ℕ) → i ≤ k → k < length zs → P (get_or zs k 0)) → AllByRecursion P (drop i zs)
+all_drop P [] zero f = tt
+all_drop P [] (suc i) f = tt
+all_drop P (z ∷ zs) zero f = (f 0 (omega arith) (omega arith), all_drop P zs zero (λ k h w. f (suc k) (omega arith) (omega arith)))
+all_drop P (z ∷ zs) (suc i) f = all_drop P zs i (λ k h w. f (suc k) (omega arith) (omega arith))
 
 module _ (R : ℕ → ℕ → Type 0) where
-  -- the front of an ordered list, and its last member
-  pub pairwise_front : (zs : List ℕ) (z : ℕ) → Pairwise R (zs ++ z ∷ []) → Pairwise R zs
-  pairwise_front [] z p = tt
-  pairwise_front (x ∷ xs) z p = (all_from_in (R x) xs (λ y i. all_in (R x) (xs ++ z ∷ []) y p.0 (in_append_left xs (z ∷ []) y i)), pairwise_front xs z p.1)
+  pub pairwise_take : (zs : List ℕ) (i : ℕ) → Pairwise R zs → Pairwise R (take i zs)
+  pairwise_take zs zero p = tt
+  pairwise_take [] (suc i) p = tt
+  pairwise_take (z ∷ zs) (suc i) p = (all_from_in (R z) (take i zs) (λ y j. all_in (R z) zs y p.0 (in_front zs i y j)), pairwise_take zs i p.1)
+
+  pub pairwise_at : (zs : List ℕ) (i j : ℕ) → Pairwise R zs → i < j → j < length zs → R (get_or zs i 0) (get_or zs j 0)
+  pairwise_at [] i j p h w = absurd (not-suc-le-zero w)
+  pairwise_at (z ∷ zs) i zero p h w = absurd (not-suc-le-zero h)
+  pairwise_at (z ∷ zs) zero (suc j) p h w = all_in (R z) zs (get_or zs j 0) p.0 (in_at zs j (le_of_suc-le-suc w))
+  pairwise_at (z ∷ zs) (suc i) (suc j) p h w = pairwise_at zs i j p.1 (le_of_suc-le-suc h) (le_of_suc-le-suc w)
 
   pub pairwise_last : (zs : List ℕ) (z y : ℕ) → Pairwise R (zs ++ z ∷ []) → In y zs → R y z
   pairwise_last [] z y p i = absurd i
@@ -29,17 +54,7 @@ module _ (R : ℕ → ℕ → Type 0) where
       other y (inl e) = subst (R z) e before.0
       other y (inr j) = all_in (R z) (zs ++ ys) y p.0 (in_append_right zs ys y j)
 
-  -- of a cut list, each of the front comes before each of the rest
-  pub across : (xs ys : List ℕ) (a b : ℕ) → Pairwise R (xs ++ ys) → In a xs → In b ys → R a b
-  across [] ys a b p i j = absurd i
-  across (x ∷ xs) ys a b p (inl e) j = subst (λ v. R v b) e (all_in (R x) (xs ++ ys) b p.0 (in_append_right xs ys b j))
-  across (x ∷ xs) ys a b p (inr i) j = across xs ys a b p.1 i j
-
 -- inserting changes the collection by what is inserted
 pub same_inserted : (xs : List ℕ) (i x : ℕ) → Same (insert xs i x) (x ∷ xs)
 same_inserted xs i x f =
     omega (arith, sum_of_append f (take i xs) (x ∷ drop i xs), sum_of_append f (take i xs) (drop i xs), ap (sum_of f) (take-append-drop i xs))
-
--- what waits, in order: each is behind all later ones
-abbrev pub Sorted : Station → List ℕ → Type 0
-Sorted w zs = Pairwise (λ a b. Ahead w b a) zs

@@ -1,6 +1,4 @@
-pub mod Calls
-pub mod Handing
-pub mod Law
-pub mod Memories
-pub mod Stations
+pub mod Listings
+pub mod Queues
+pub mod Verdicts
 pub mod Waiters

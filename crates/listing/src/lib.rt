@@ -1,11 +1,13 @@
-// The listing of a station's states, foremost first: what its calls answer.
+// The listing of a station's states, foremost first, and the figures between which its reliability lies.
 #![tactic(auto)]
 
-mod answers;
+mod aim;
 mod listing;
-mod placing;
+mod not_opened;
+mod queue;
+mod stopped;
 mod waiting;
 
-pub use answers::{Answer, Call, Ending, Figures, Full, Ran, RunError, Verdict};
 pub use listing::Listing;
-pub use waiting::Waiting;
+pub use not_opened::NotOpened;
+pub use stopped::Stopped;

@@ -1,10 +1,12 @@
 ghost use Rattle.std.specs.Prelude.{nat_lt};
+ghost use Rattle.std.specs.Ordering.{nat_cmp};
 ghost use Rattle.std.proofs.Common.{inl, inr, arith, le-ltb, rules};
 ghost use Rattle.states.proofs.Trees.{steps_grow};
 
-use rankings::{Rank, Ranking};
+use rankings::Ranking;
 use sheet::Sheet;
 use states::Weighed;
+use std::cmp::Ordering;
 
 // The state of the smaller number outranks.
 #[derive(Clone, Copy)]
@@ -16,6 +18,10 @@ impl Ranking for ByNumber {
     ghost outranks = { λ _ _ x y. nat_lt x y };
 
     ghost keyed = { λ _ _ x. x };
+
+    ghost compared = { λ _ _ first second. nat_cmp first second };
+
+    ghost by_keys = { Prim.search rules };
 
     ghost one_way = { Prim.search rules };
 
@@ -29,13 +35,7 @@ impl Ranking for ByNumber {
         weighed.state().on_sheet(weighed.sheet()).number()
     }
 
-    fn compare(&self, _sheet: &Sheet, first: u64, second: u64) -> Rank {
-        if first < second {
-            Rank::Higher
-        } else if second < first {
-            Rank::Lower
-        } else {
-            Rank::Tied
-        }
+    fn compare(&self, _sheet: &Sheet, first: u64, second: u64) -> Ordering {
+        first.cmp(&second)
     }
 }

@@ -1,11 +1,9 @@
 use crate::by_number::ByNumber;
 use crate::many::list_all;
 use crate::outcome::{show_figures, show_next, show_reply, show_run};
-use crate::sheets::{part, sheet_of};
-use crate::standby::Standby;
-use anyhow::anyhow;
+use crate::sheets::{sheet_of, standby};
 use calls::Call;
-use listing_calls::Listing;
+use listing::Listing;
 use rankings::Exact;
 use replaying::replay;
 use structures::{PathList, Quorum};
@@ -14,9 +12,7 @@ use structures::{PathList, Quorum};
 pub(crate) fn runs(rt: &HostRuntime) -> anyhow::Result<()> {
     println!(rt; "runs")?;
     let sheet = sheet_of(rt.alloc(), &[7, 7, 17])?;
-    let Ok(mut listing) = Listing::open(rt.alloc(), &sheet, Quorum::new(2, 0b111), Exact) else {
-        return Err(anyhow!("no memory"));
-    };
+    let mut listing = Listing::open(rt.alloc(), &sheet, Quorum::new(2, 0b111), Exact)?;
     show_run(rt, listing.run(0, 5))?;
     show_run(rt, listing.run(1_000_001, 5))?;
     show_run(rt, listing.run(1_000_000, 0))?;
@@ -30,14 +26,9 @@ pub(crate) fn runs(rt: &HostRuntime) -> anyhow::Result<()> {
 
 pub(crate) fn empty_path_list(rt: &HostRuntime) -> anyhow::Result<()> {
     println!(rt; "empty path list")?;
-    let heap = rt.alloc();
-    let sheet = sheet_of(heap, &[7, 7, 17])?;
-    let Ok(none) = PathList::new(heap, &[]) else {
-        return Err(anyhow!("the paths were refused"));
-    };
-    let Ok(mut listing) = Listing::open(heap, &sheet, none, Exact) else {
-        return Err(anyhow!("no memory"));
-    };
+    let sheet = sheet_of(rt.alloc(), &[7, 7, 17])?;
+    let none = PathList::new(rt.alloc(), &[])?;
+    let mut listing = Listing::open(rt.alloc(), &sheet, none, Exact)?;
     show_next(rt, listing.next())?;
     show_figures(rt, listing.figures())?;
     show_next(rt, listing.next())
@@ -46,9 +37,7 @@ pub(crate) fn empty_path_list(rt: &HostRuntime) -> anyhow::Result<()> {
 pub(crate) fn no_parts(rt: &HostRuntime) -> anyhow::Result<()> {
     println!(rt; "no parts")?;
     let sheet = sheet_of(rt.alloc(), &[])?;
-    let Ok(mut listing) = Listing::open(rt.alloc(), &sheet, Quorum::new(0, 0), Exact) else {
-        return Err(anyhow!("no memory"));
-    };
+    let mut listing = Listing::open(rt.alloc(), &sheet, Quorum::new(0, 0), Exact)?;
     show_next(rt, listing.next())?;
     show_next(rt, listing.next())?;
     show_figures(rt, listing.figures())
@@ -58,9 +47,7 @@ pub(crate) fn no_parts(rt: &HostRuntime) -> anyhow::Result<()> {
 pub(crate) fn full_listing(rt: &HostRuntime) -> anyhow::Result<()> {
     println!(rt; "full")?;
     let sheet = sheet_of(rt.alloc(), &[10; 20])?;
-    let Ok(mut listing) = Listing::open(rt.alloc(), &sheet, Quorum::new(10, 0xf_ffff), Exact) else {
-        return Err(anyhow!("no memory"));
-    };
+    let mut listing = Listing::open(rt.alloc(), &sheet, Quorum::new(10, 0xf_ffff), Exact)?;
     show_run(rt, listing.run(1_000_000, 1_000_000))?;
     let before = listing.figures();
     show_next(rt, listing.next())?;
@@ -75,44 +62,40 @@ pub(crate) fn full_listing(rt: &HostRuntime) -> anyhow::Result<()> {
 pub(crate) fn stopped(rt: &HostRuntime) -> anyhow::Result<()> {
     println!(rt; "stopped")?;
     let sheet = sheet_of(rt.alloc(), &[2, 8, 8, 30])?;
-    let standby = Standby {
-        unit: part(1)?,
-        spare: part(3)?,
-    };
-    let Ok(mut listing) = Listing::open(rt.alloc(), &sheet, standby, ByNumber) else {
-        return Err(anyhow!("no memory"));
-    };
+    let standby = standby()?;
+    let mut listing = Listing::open(rt.alloc(), &sheet, standby, ByNumber)?;
     show_run(rt, listing.run(1_000_000, 3))?;
     let stopped = listing.stop();
     show_figures(rt, stopped.figures)?;
-    list_all(rt, "opened again", &sheet, stopped.pile, stopped.ranking)
+    list_all(rt, "opened again", &sheet, stopped.pile, stopped.ranking)?;
+    Ok(())
+}
+
+fn run(target: u32, budget: u64) -> Call {
+    Call::Run { target, budget }
 }
 
 pub(crate) fn replayed(rt: &HostRuntime) -> anyhow::Result<()> {
     println!(rt; "replayed")?;
     let sheet = sheet_of(rt.alloc(), &[2, 8, 8, 30])?;
-    let standby = Standby {
-        unit: part(1)?,
-        spare: part(3)?,
-    };
+    let standby = standby()?;
     let calls = [
         Call::Figures,
         Call::Next,
-        Call::Run(0, 9),
-        Call::Run(1_000_001, 9),
-        Call::Run(1_000_000, 4),
+        run(0, 9),
+        run(1_000_001, 9),
+        run(1_000_000, 4),
         Call::Next,
-        Call::Run(900_000, 9),
-        Call::Run(1_000_000, 99),
+        run(900_000, 9),
+        run(1_000_000, 99),
         Call::Next,
         Call::Figures,
     ];
-    let Ok(answers) = replay(rt.alloc(), &sheet, standby, ByNumber, &calls) else {
-        return Err(anyhow!("no memory"));
-    };
-    for answer in answers.replies.iter() {
+    let answers = replay(rt.alloc(), &sheet, standby, ByNumber, &calls)?;
+    for answer in &answers.replies {
         show_reply(rt, answer.reply)?;
         show_figures(rt, answer.figures)?;
     }
-    list_all(rt, "opened again", &sheet, answers.pile, answers.ranking)
+    list_all(rt, "opened again", &sheet, answers.pile, answers.ranking)?;
+    Ok(())
 }

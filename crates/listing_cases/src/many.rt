@@ -1,13 +1,11 @@
 use crate::by_number::ByNumber;
-use crate::sheets::{part, sheet_of};
-use crate::standby::Standby;
-use anyhow::anyhow;
-use calls::{Answer, Figures};
-use listing_calls::Listing;
+use crate::sheets::{part, sheet_of, standby};
+use calls::Figures;
+use listing::Listing;
 use networks::{Link, Network};
 use rankings::{Exact, Points, Ranking};
 use sheet::Sheet;
-use structures::{Bypass, Condition, Feed, Given, PathList, Quorum, Structure};
+use structures::{Bypass, Condition, Feed, Layer, PathList, Quorum, Structure};
 use summation::{Sums, sum_states};
 
 // Whether finished figures are what the sum over all states gives.
@@ -22,51 +20,52 @@ fn against(figures: Figures, sums: Sums) -> &'static str {
 }
 
 // Calls next until it hands out no more, and prints how many states came, a number made of them in their order, and the last
-// figures beside the sum over all states.
+// figures beside the sum over all states. The pile is handed back.
 pub(crate) fn list_all<S: Structure + Drop, R: Ranking + Drop>(
     rt: &HostRuntime,
     name: &str,
     sheet: &Sheet,
     pile: S,
     ranking: R,
-) -> anyhow::Result<()> {
-    let Ok(sums) = sum_states(sheet, &pile) else {
-        return Err(anyhow!("more than 20 parts"));
-    };
-    let Ok(mut listing) = Listing::open(rt.alloc(), sheet, pile, ranking) else {
-        return Err(anyhow!("no memory"));
-    };
+) -> anyhow::Result<S> {
+    let sums = sum_states(sheet, &pile)?;
+    let mut listing = Listing::open(rt.alloc(), sheet, pile, ranking)?;
     let mut order = 0u64;
     for _ in 0..4097 {
-        let Ok(answer) = listing.next() else {
+        let Ok(Some(handed)) = listing.next() else {
             break;
         };
-        let Answer::Handed(state, _) = answer else {
-            break;
-        };
-        order = order.wrapping_mul(31).wrapping_add(state.number());
+        order = order.wrapping_mul(31).wrapping_add(handed.state.number());
     }
-    let figures = listing.figures();
-    let handed = figures.handed;
-    let lower = figures.lower;
-    let upper = figures.upper;
-    let compared = against(figures, sums);
-    println!(rt; "{name},{handed},{order},{lower},{upper},{compared}")?;
+    let stopped = listing.stop();
+    let figures = stopped.figures;
+    println!(rt;
+        "{name},{},{order},{},{},{}",
+        figures.handed,
+        figures.lower,
+        figures.upper,
+        against(figures, sums)
+    )?;
+    Ok(stopped.pile)
+}
+
+// The same by both rankings.
+fn list_by_both<S: Structure + Drop>(
+    rt: &HostRuntime,
+    name: &str,
+    sheet: &Sheet,
+    pile: S,
+) -> anyhow::Result<()> {
+    let pile = list_all(rt, name, sheet, pile, Exact)?;
+    list_all(rt, name, sheet, pile, Points)?;
     Ok(())
 }
 
-// A feed over a path list, by both rankings.
+// A feed over a path list.
 fn fed(rt: &HostRuntime, name: &str, grades: &[u8], paths: &[u64], feed: u8) -> anyhow::Result<()> {
-    let heap = rt.alloc();
-    let sheet = sheet_of(heap, grades)?;
-    let Ok(list) = PathList::new(heap, paths) else {
-        return Err(anyhow!("the paths were refused"));
-    };
-    list_all(rt, name, &sheet, Feed::new(part(feed)?, list), Exact)?;
-    let Ok(list) = PathList::new(heap, paths) else {
-        return Err(anyhow!("the paths were refused"));
-    };
-    list_all(rt, name, &sheet, Feed::new(part(feed)?, list), Points)
+    let sheet = sheet_of(rt.alloc(), grades)?;
+    let list = PathList::new(rt.alloc(), paths)?;
+    list_by_both(rt, name, &sheet, Layer::new(part(feed)?, Feed, list))
 }
 
 pub(crate) fn path_lists(rt: &HostRuntime) -> anyhow::Result<()> {
@@ -94,11 +93,8 @@ fn piled(
     condition: Condition,
 ) -> anyhow::Result<()> {
     let sheet = sheet_of(rt.alloc(), grades)?;
-    let quorum = Quorum::new(count, 0b1_1111);
-    let given = Given::new(part(2)?, condition, quorum);
-    list_all(rt, name, &sheet, Bypass::new(part(6)?, given), Exact)?;
-    let given = Given::new(part(2)?, condition, Quorum::new(count, 0b1_1111));
-    list_all(rt, name, &sheet, Bypass::new(part(6)?, given), Points)
+    let given = Layer::new(part(2)?, condition, Quorum::new(count, 0b1_1111));
+    list_by_both(rt, name, &sheet, Layer::new(part(6)?, Bypass, given))
 }
 
 pub(crate) fn layered(rt: &HostRuntime) -> anyhow::Result<()> {
@@ -122,59 +118,27 @@ pub(crate) fn layered(rt: &HostRuntime) -> anyhow::Result<()> {
 
 // A square of masts with one diagonal.
 pub(crate) fn networked(rt: &HostRuntime) -> anyhow::Result<()> {
-    let heap = rt.alloc();
-    let sheet = sheet_of(heap, &[6, 6, 9, 9, 13])?;
+    let sheet = sheet_of(rt.alloc(), &[6, 6, 9, 9, 13])?;
     let links = [
-        Link {
-            one: 0,
-            other: 1,
-            part: 1,
-        },
-        Link {
-            one: 1,
-            other: 2,
-            part: 2,
-        },
-        Link {
-            one: 2,
-            other: 3,
-            part: 3,
-        },
-        Link {
-            one: 3,
-            other: 0,
-            part: 4,
-        },
-        Link {
-            one: 1,
-            other: 3,
-            part: 5,
-        },
+        Link::new(0, 1, 1),
+        Link::new(1, 2, 2),
+        Link::new(2, 3, 3),
+        Link::new(3, 0, 4),
+        Link::new(1, 3, 5),
     ];
-    let Ok(network) = Network::new(heap, 0, 2, &links) else {
-        return Err(anyhow!("the network was refused"));
-    };
+    let network = Network::new(rt.alloc(), 0, 2, &links)?;
     list_all(rt, "square network", &sheet, network, Exact)?;
-    let Ok(network) = Network::new(heap, 1, 1, &links) else {
-        return Err(anyhow!("the network was refused"));
-    };
-    list_all(rt, "equal terminals", &sheet, network, Points)
+    let network = Network::new(rt.alloc(), 1, 1, &links)?;
+    list_all(rt, "equal terminals", &sheet, network, Points)?;
+    Ok(())
 }
 
 // This program's own structure and ranking, also under a layer of the library's.
 pub(crate) fn foreign(rt: &HostRuntime) -> anyhow::Result<()> {
     let sheet = sheet_of(rt.alloc(), &[2, 8, 8, 30])?;
-    let standby = Standby {
-        unit: part(1)?,
-        spare: part(3)?,
-    };
-    list_all(rt, "standby", &sheet, standby, ByNumber)?;
-    list_all(rt, "standby by mass", &sheet, standby, Exact)?;
-    list_all(
-        rt,
-        "standby behind a feed",
-        &sheet,
-        Feed::new(part(4)?, standby),
-        ByNumber,
-    )
+    let standby = list_all(rt, "standby", &sheet, standby()?, ByNumber)?;
+    let standby = list_all(rt, "standby by mass", &sheet, standby, Exact)?;
+    let fed = Layer::new(part(4)?, Feed, standby);
+    list_all(rt, "standby behind a feed", &sheet, fed, ByNumber)?;
+    Ok(())
 }

@@ -1,4 +1,4 @@
-use anyhow::anyhow;
+use crate::standby::Standby;
 use sheet::{Draft, PartNumber, Sheet};
 use std::alloc::Global;
 
@@ -6,16 +6,19 @@ use std::alloc::Global;
 pub(crate) fn sheet_of(heap: Global, grades: &[u8]) -> anyhow::Result<Sheet> {
     let mut draft = Draft::new(heap);
     for grade in grades {
-        let Ok(_) = draft.add(*grade, 100) else {
-            return Err(anyhow!("a part was refused"));
-        };
+        draft.add(*grade, 100)?;
     }
     Ok(draft.seal())
 }
 
 pub(crate) fn part(number: u8) -> anyhow::Result<PartNumber> {
-    match PartNumber::new(number) {
-        Ok(part) => Ok(part),
-        Err(_) => Err(anyhow!("no part number")),
-    }
+    Ok(PartNumber::try_from(number)?)
+}
+
+// Part 1 with the spare part 3.
+pub(crate) fn standby() -> anyhow::Result<Standby> {
+    Ok(Standby {
+        unit: part(1)?,
+        spare: part(3)?,
+    })
 }

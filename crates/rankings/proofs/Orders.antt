@@ -1,25 +1,28 @@
 -- 'Ahead' is a strict total order on the states of a sheet, for every ranking that keeps its laws. Assumes nothing.
-use Rattle.std.proofs.Common.{◌≡◌, ℕ, ◌^◌, ◌<◌, ◌≤◌, Bool, true, false, not, ◌&&◌, ◌||◌, ltb, ◌⊎◌, sym, refl, ap, ◌∙◌, ap₂, inl, inr, ⊎_elim, mod-eq_of_lt, arith, ltb-true, le-ltb, lt-ltb}
+use Rattle.std.proofs.Common.{◌≡◌, ℕ, ◌^◌, ◌<◌, ◌≤◌, Bool, true, false, not, ◌&&◌, ◌||◌, ltb, eqb, cond, ◌⊎◌, sym, refl, ap, ◌∙◌, inl, inr, ⊎_elim, arith, ltb-true, le-ltb, lt-ltb}
 use borrow.Author.Tests.{clash}
 use Rattle.std.proofs.lemmas.Bool.{cases_Bool, or_cases, or_left, or_right, and_parts, and_from, not-true, not_from_false, cases_lt}
-use Rattle.rankings.specs.declared.ranking.Rank.{Rank}
-use Rattle.rankings.specs.declared.ranking.Rank.TheVariants.{Higher, Lower, Tied}
-use Rattle.states.specs.Steps.{low}
-use Rattle.rankings.specs.Orders.{OneWay, Through, rank_of, ranked, ahead, StrictOrder}
+use Rattle.std.specs.declared.cmp.Ordering.{Ordering}
+use Rattle.std.specs.declared.cmp.Ordering.TheVariants.{Less, Equal, Greater}
+use Rattle.std.specs.Ordering.{is_lt, ordering_then, nat_cmp}
+use Rattle.rankings.specs.Orders.{OneWay, Through, rank_of, RankedByKeys, ahead, ahead_by_keys, StrictOrder}
 
--- what a rank decides, given whether the first number is the smaller
-abbrev pub decides : Rank → Bool → Bool
-decides Higher smaller = true
-decides Lower smaller = false
-decides Tied smaller = smaller
+-- what decides which is ahead: the rank, and where they tie the numbers
+by_rank : (a b t : Bool) (c : Ordering) → is_lt c ≡ t → is_lt (ordering_then (rank_of a b) c) ≡ (a || (not b && t))
+by_rank true b t c e = refl
+by_rank false true t c e = refl
+by_rank false false t c e = e
 
-decided : (a b t : Bool) → decides (rank_of a b) t ≡ (a || (not b && t))
-decided true b t = refl
-decided false true t = refl
-decided false false t = refl
+less_by : (t e : Bool) → is_lt (cond t Less (cond e Equal Greater)) ≡ t
+less_by true e = refl
+less_by false true = refl
+less_by false false = refl
 
-pub ahead_by_rank : (outranks : ℕ → ℕ → Bool) (x y : ℕ) (r : Rank) → r ≡ ranked outranks x y → decides r (ltb x y) ≡ ahead outranks x y
-ahead_by_rank outranks x y r e = ap (λ k. decides k (ltb x y)) e ∙ decided (outranks x y) (outranks y x) (ltb x y)
+-- the keys of two states of the sheet say which is ahead
+pub keys_say : {Key : Type 0} (n : ℕ) (o : ℕ → ℕ → Bool) (keyed : ℕ → Key) (compared : Key → Key → Ordering) → RankedByKeys n o keyed compared
+    → (x y : ℕ) → x < 2 ^ n → y < 2 ^ n → ahead_by_keys compared x (keyed x) y (keyed y) ≡ ahead o x y
+keys_say n o keyed compared ranks x y hx hy =
+    ap (λ r. is_lt (ordering_then r (nat_cmp x y))) (ranks x y hx hy) ∙ by_rank (o x y) (o y x) (ltb x y) (nat_cmp x y) (less_by (ltb x y) (eqb x y))
 
 module _ (n : ℕ) (o : ℕ → ℕ → Bool) (one_way : OneWay n o) (through : Through n o) where
   -- x is ahead of y: y does not outrank x, and x outranks y or has the smaller number
@@ -77,7 +80,3 @@ module _ (n : ℕ) (o : ℕ → ℕ → Bool) (one_way : OneWay n o) (through : 
     passes_on = λ x y z hx hy hz a b. to x z (joined x y z hx hy hz (from x y hx hy a) (from y z hy hz b));
     one_of_two = one_of_two;
   }
-
--- the rank of two states of the sheet decides which is ahead
-pub first_by_rank : (n : ℕ) (o : ℕ → ℕ → Bool) (x y : ℕ) (r : Rank) → x < 2 ^ n → y < 2 ^ n → r ≡ ranked o (low n x) (low n y) → decides r (ltb x y) ≡ ahead o x y
-first_by_rank n o x y r hx hy e = ahead_by_rank o x y r (e ∙ ap₂ (ranked o) (mod-eq_of_lt hx) (mod-eq_of_lt hy))

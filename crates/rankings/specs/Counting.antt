@@ -1,10 +1,12 @@
 -- Points: one part more, what they read, and the ranking's two laws. Assumes nothing.
-use Rattle.std.specs.Prelude.{◌≡◌, ℕ, zero, suc, ◌+◌, ◌-◌, ◌/◌, ◌%◌, ◌^◌, ◌<◌, ◌≤◌, false, cond, List, [], ◌∷◌, length, ◌==◌, slice_index, slice_index_or, refl}
-use Rattle.std.proofs.Common.{sym, ◌∙◌, le-ltb}
+use Rattle.std.specs.Prelude.{◌≡◌, ℕ, zero, suc, ◌+◌, ◌-◌, ◌/◌, ◌%◌, ◌^◌, ◌<◌, ◌≤◌, false, cond, List, [], ◌∷◌, length, slice_index, slice_index_or, refl}
+use Rattle.std.proofs.Common.{sym, ◌∙◌, le-ltb, add-zero}
+use Rattle.std.proofs.lemmas.Bool.{ne_eqb}
 use Rattle.std.proofs.Math.Path.{ap, ap₂}
 use native.Mathlib.Omega.{arith}
-use Rattle.std.proofs.lemmas.List.{length-map}
+use Rattle.std.proofs.lemmas.List.{length-map, get_or-map}
 use Rattle.sheet.specs.Parts.{grades_of, grade_of, parts_of, count_of}
+use Rattle.sheet.specs.declared.part.Part.{Part}
 use Rattle.sheet.specs.declared.sealed.Sheet.{Sheet}
 use Rattle.sheet.proofs.Figures.{grades_rise}
 use Rattle.states.specs.Sets.{bit}
@@ -17,12 +19,19 @@ pub points_none : (gs : List ℕ) (x : ℕ) → 0 ≡ points_upto gs 0 x
 unfolding points_upto
 points_none gs x = refl
 
--- what the code works out at part l + 1
-pub points_more : (gs : List ℕ) (l x g s r : ℕ) → g ≡ slice_index gs l → s ≡ points_upto gs l x → r ≡ s + cond (x / 2 ^ l % 2 == 1) g 0 → r ≡ points_upto gs (l + 1) x
+-- a part that has failed counts its grade, a sound one nothing
+pub part_failed : (s : Sheet) (l x : ℕ) (p : Part) → p ≡ slice_index_or (parts_of s) l p → l < count_of s → x / 2 ^ l % 2 ≡ 1 → points_upto (grades_of s) (l + 1) x ≡ points_upto (grades_of s) l x + p.grade.number
 unfolding points_upto bit
-points_more gs l x g s r eg es er =
+part_failed s l x p is_at within failed =
     let e : l + 1 ≡ suc l = omega arith in
-    er ∙ ap₂ (λ t n. t + cond (bit l x) n 0) es eg ∙ sym (ap (λ k. points_upto gs k x) e)
+    let grade : slice_index (grades_of s) l ≡ grade_of p = get_or-map grade_of (parts_of s) l p 0 within ∙ ap grade_of (sym is_at) in
+    rw (e, failed, grade) refl
+
+pub part_sound : (gs : List ℕ) (l x : ℕ) → (x / 2 ^ l % 2 ≡ 1 → ⊥) → points_upto gs (l + 1) x ≡ points_upto gs l x
+unfolding points_upto bit
+part_sound gs l x sound =
+    let e : l + 1 ≡ suc l = omega arith in
+    rw (e, ne_eqb (x / 2 ^ l % 2) 1 sound) (add-zero _)
 
 points_same : (gs : List ℕ) (l x y : ℕ) → ((k : ℕ) → k < l → bit k y ≡ bit k x) → points_upto gs l y ≡ points_upto gs l x
 unfolding points_upto
@@ -35,6 +44,9 @@ count_grades s = length-map (parts_of s) grade_of
 
 pub points_read : (s : Sheet) (x : ℕ) → points (grades_of s) (low (count_of s) x) ≡ points (grades_of s) x
 points_read s x = points_same (grades_of s) (length (grades_of s)) x (low (count_of s) x) (λ k h. bit_low k (count_of s) x (omega (arith, count_grades s)))
+
+-- what counting the points part by part stands on
+pub ruleset counted = (points_none, part_failed, part_sound, points_read, count_grades)
 
 module _ (gs : List ℕ) (x y : ℕ) where
   -- from part k on both states have the same parts

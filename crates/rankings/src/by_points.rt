@@ -1,41 +1,32 @@
 ghost use Rattle.std.specs.Prelude.{◌≡◌, ◌+◌, ◌≤◌, if◌then◌else◌};
+ghost use Rattle.std.specs.Ordering.{nat_cmp};
 ghost use Rattle.sheet.specs.Parts.{grades_of, count_of};
 ghost use Rattle.states.specs.Steps.{low};
 ghost use Rattle.rankings.specs.Points.{points, fewer};
 ghost use Rattle.rankings.specs.Counting.{add_law, move_law};
 ghost use Rattle.std.proofs.Common.{rules};
 
-use crate::ranking::{Rank, Ranking};
+use crate::ranking::Ranking;
 use sheet::Sheet;
 use states::{State, Weighed};
+use std::cmp::Ordering;
 
 // The state of the smaller sum of grades over its failed parts outranks.
 #[derive(Clone, Copy)]
 pub struct Points;
 
-// The points with those of one part more, which has failed or is sound.
-fn more_points(points: u32, grade: u8, failed: bool) -> u32
-    requires { points ≤ 1560 }
-    ensures { result ≡ points + (if failed then grade else 0) }
-{
-    if failed {
-        points + grade as u32
-    } else {
-        points
-    }
-}
-
 // The sum of the grades of the sheet's parts that have failed in the state.
+#[tactic(auto, using(crate::specs::Counting::counted))]
 fn points_of(sheet: &Sheet, state: State) -> u32
     ensures value { result ≡ points (grades_of sheet.now) state.number }
     ensures as_read { result ≡ points (grades_of sheet.now) (low (count_of sheet.now) state.number) }
 {
-    let parts = sheet.parts();
     let mut sum = 0;
-    for l in 0..parts.len() {
-        let failed = (state.number() >> l) % 2 == 1;
-        let part = parts[l];
-        sum = more_points(sum, part.grade.number(), failed);
+    // No `filter`, `map` and `sum`: three closures for this `if`.
+    for (place, part) in sheet.parts().iter().enumerate() {
+        if (state.number() >> place) % 2 == 1 {
+            sum += u32::from(part.grade.number());
+        }
     }
     sum
 }
@@ -46,6 +37,10 @@ impl Ranking for Points {
     ghost outranks = { λ _ s. fewer (grades_of s) };
 
     ghost keyed = { λ _ s. points (grades_of s) };
+
+    ghost compared = { λ _ _ first second. nat_cmp first second };
+
+    ghost by_keys = { Prim.search rules };
 
     ghost one_way = { Prim.search rules };
 
@@ -59,13 +54,7 @@ impl Ranking for Points {
         points_of(weighed.sheet(), weighed.state())
     }
 
-    fn compare(&self, _sheet: &Sheet, first: u32, second: u32) -> Rank {
-        if first < second {
-            Rank::Higher
-        } else if second < first {
-            Rank::Lower
-        } else {
-            Rank::Tied
-        }
+    fn compare(&self, _sheet: &Sheet, first: u32, second: u32) -> Ordering {
+        first.cmp(&second)
     }
 }

@@ -1,12 +1,14 @@
+ghost use Rattle.std.specs.Ordering.{nat_cmp};
 ghost use Rattle.sheet.specs.Parts.{figures_of};
 ghost use Rattle.states.specs.Masses.{mass};
 ghost use Rattle.rankings.specs.Exact.{heavier};
 ghost use Rattle.rankings.specs.Exactly.{add_law, move_law};
 ghost use Rattle.std.proofs.Common.{rules};
 
-use crate::ranking::{Rank, Ranking};
+use crate::ranking::Ranking;
 use sheet::Sheet;
 use states::Weighed;
+use std::cmp::Ordering;
 
 // The state of the greater mass outranks.
 #[derive(Clone, Copy)]
@@ -18,6 +20,10 @@ impl Ranking for Exact {
     ghost outranks = { λ _ s. heavier (figures_of s) };
 
     ghost keyed = { λ _ s. mass (figures_of s) };
+
+    ghost compared = { λ _ _ first second. nat_cmp second first };
+
+    ghost by_keys = { Prim.search rules };
 
     ghost one_way = { Prim.search rules };
 
@@ -31,13 +37,7 @@ impl Ranking for Exact {
         weighed.mass()
     }
 
-    fn compare(&self, _sheet: &Sheet, first: u64, second: u64) -> Rank {
-        if second < first {
-            Rank::Higher
-        } else if first < second {
-            Rank::Lower
-        } else {
-            Rank::Tied
-        }
+    fn compare(&self, _sheet: &Sheet, first: u64, second: u64) -> Ordering {
+        second.cmp(&first)
     }
 }

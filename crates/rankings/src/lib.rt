@@ -6,7 +6,7 @@ mod by_points;
 mod exact;
 mod ranking;
 
-pub use ahead::is_ahead;
+pub use ahead::{is_ahead, is_ahead_by_keys};
 pub use by_points::Points;
 pub use exact::Exact;
-pub use ranking::{Rank, Ranking};
+pub use ranking::Ranking;

@@ -1,5 +1,5 @@
 -- Calls carried out one after another. Assumes nothing.
-use Rattle.std.proofs.Common.{◌≡◌, ℕ, Bool, List, [], ◌∷◌, ◌++◌, map, sym, refl, ap, ◌∙◌, subst, ap₂}
+use Rattle.std.proofs.Common.{◌≡◌, List, [], ◌∷◌, ◌++◌, map, sym, refl, ap, ◌∙◌, subst, ap₂}
 use Rattle.std.proofs.lemmas.List.{map_push}
 use Rattle.sheet.specs.declared.sealed.Sheet.{Sheet}
 use Rattle.calls.specs.Histories.{Moment, moment, Led, calls_in}
@@ -11,26 +11,26 @@ use Rattle.calls.specs.declared.answers.Call.{Call}
 use Rattle.calls.specs.declared.answers.Replied.{Replied}
 use Rattle.calls.proofs.Every.{every_listing}
 use Rattle.calls.proofs.Invariant.{Lawful}
-use Rattle.listing_calls.specs.Listings.{memory_of, station_of, SameStation, LeftBy, Opened, Called}
-use Rattle.listing_calls.specs.declared.listing.Listing.{Listing}
-use Rattle.listing_calls.proofs.Calling.{station_same}
+use Rattle.listing.specs.Listings.{pile_of, ranking_of, memory_of, station_of, SameStation, LeftBy, Opened, Called}
+use Rattle.listing.specs.declared.listing.Listing.{Listing}
+use Rattle.listing.proofs.Calling.{station_same}
 use Rattle.structures.specs.declared.structure.Structure.{Ghosts as StructureGhosts}
 use Rattle.rankings.specs.declared.ranking.Ranking.{Ghosts as RankingGhosts}
 
--- the calls cs were made since the listing l was opened, and gave rs
-pub record Made {S R K : Type 0} {sg : StructureGhosts S} {rg : RankingGhosts R K} (works : S → ℕ → Bool) (outranks : R → Sheet → ℕ → ℕ → Bool) (keyed : R → Sheet → ℕ → K) (cs : List Call) (rs : List Replied) (l : Listing S R K sg rg) : Type 0 where
-  pub moments : List Moment
-  pub left : LeftBy works outranks keyed moments l
-  pub calls_are : calls_in moments ≡ cs
-  pub answers_are : map (λ r. said_by r.reply) rs ≡ map (λ m. m.answer) moments
-  pub figures_are : map (λ r. r.figures) rs ≡ map (λ m. figures_at m.kept) moments
+module _ {S R K : Type 0} {sg : StructureGhosts S} {rg : RankingGhosts R K} where
+  -- the calls cs were made since the listing l was opened, and gave rs
+  pub record Made (cs : List Call) (rs : List Replied) (l : Listing S R K sg rg) : Type 0 where
+    pub moments : List Moment
+    pub left : LeftBy moments l
+    pub calls_are : calls_in moments ≡ cs
+    pub answers_are : map (λ r. said_by r.reply) rs ≡ map (λ m. m.answer) moments
+    pub figures_are : map (λ r. r.figures) rs ≡ map (λ m. figures_at m.kept) moments
 
-module _ {S R K : Type 0} {sg : StructureGhosts S} {rg : RankingGhosts R K} (works : S → ℕ → Bool) (outranks : R → Sheet → ℕ → ℕ → Bool) (keyed : R → Sheet → ℕ → K) where
-  pub none_made : (l : Listing S R K sg rg) → LeftBy works outranks keyed [] l → Made works outranks keyed [] [] l
+  pub none_made : (l : Listing S R K sg rg) → LeftBy [] l → Made [] [] l
   none_made l left = record { moments = []; left = left; calls_are = refl; answers_are = refl; figures_are = refl }
 
-  pub one_made : (cs : List Call) (rs : List Replied) (l l' : Listing S R K sg rg) → Made works outranks keyed cs rs l → (c : Call) (r : Replied) → Called works outranks keyed c (said_by r.reply) l l'
-      → r.figures ≡ figures_at (memory_of l') → Made works outranks keyed (cs ++ c ∷ []) (rs ++ r ∷ []) l'
+  pub one_made : (cs : List Call) (rs : List Replied) (l l' : Listing S R K sg rg) → Made cs rs l → (c : Call) (r : Replied) → Called c (said_by r.reply) l l' → r.figures ≡ figures_at (memory_of l')
+      → Made (cs ++ c ∷ []) (rs ++ r ∷ []) l'
   one_made cs rs l l' made c r call figures =
       let ms = made.moments in
       let done = call ms made.left in
@@ -43,9 +43,9 @@ module _ {S R K : Type 0} {sg : StructureGhosts S} {rg : RankingGhosts R K} (wor
         figures_are = map_push (λ v. v.figures) rs r ∙ ap₂ (λ v f. v ++ f ∷ []) made.figures_are figures ∙ sym (map_push (λ v. figures_at v.kept) ms m);
       }
 
-  pub all_made : (w : Station) → Lawful w → (cs : List Call) (rs : List Replied) (l : Listing S R K sg rg) → station_of works outranks l ≡ w → Made works outranks keyed cs rs l → CarriedOut w cs rs
+  pub all_made : (w : Station) → Lawful w → (cs : List Call) (rs : List Replied) (l : Listing S R K sg rg) → station_of l ≡ w → Made cs rs l → CarriedOut w cs rs
   all_made w laws cs rs l e made =
-      let led = subst (λ v. Led v made.moments (memory_of l)) e made.left.led in
+      let led = subst (λ v. Led v made.moments (memory_of l)) e made.left in
       record {
         moments = made.moments;
         left = memory_of l;
@@ -57,9 +57,9 @@ module _ {S R K : Type 0} {sg : StructureGhosts S} {rg : RankingGhosts R K} (wor
       }
 
   -- a listing that was opened, and has its station still
-  pub opened_station : (s : Sheet) (pile : S) (ranking : R) (l l' : Listing S R K sg rg) → Opened works outranks keyed s pile ranking l → SameStation l l' → station_of works outranks l' ≡ station s (works pile) (outranks ranking s)
+  pub opened_station : (s : Sheet) (pile : S) (ranking : R) (l l' : Listing S R K sg rg) → Opened s pile ranking l → SameStation l l' → station_of l' ≡ station s (sg.works pile) (rg.outranks ranking s)
   opened_station s pile ranking l l' opened same =
-      sym (station_same works outranks keyed l l' same)
-      ∙ ap (λ t. station t (works l.pile) (outranks l.ranking t)) opened.sheet_is
-      ∙ ap (λ p. station s (works p) (outranks l.ranking s)) opened.pile_is
-      ∙ ap (λ r. station s (works pile) (outranks r s)) opened.ranking_is
+      sym (station_same l l' same)
+      ∙ ap (λ t. station t (sg.works (pile_of l)) (rg.outranks (ranking_of l) t)) opened.sheet_is
+      ∙ ap (λ p. station s (sg.works p) (rg.outranks (ranking_of l) s)) opened.pile_is
+      ∙ ap (λ r. station s (sg.works pile) (rg.outranks r s)) opened.ranking_is

@@ -1,24 +1,24 @@
 ghost use Rattle.std.specs.Prelude.{◌≡◌, MatchResult};
 ghost use Rattle.calls.specs.Replies.{said_by};
-ghost use Rattle.listing_calls.specs.Listings.{SameStation, Called};
+ghost use Rattle.listing.specs.Listings.{SameStation, Called};
 ghost use Rattle.replaying.specs.Replays.{Replays};
 
 use crate::replayed::Replayed;
 use calls::{Call, Replied, Reply};
-use listing_calls::Listing;
+use listing::{Listing, NotOpened};
 use rankings::Ranking;
 use sheet::Sheet;
 use std::alloc::Global;
 use structures::Structure;
 
-// Makes a call.
+// Makes a call. A `match` and no closure: calls are data here, given in a list.
 fn make<'a, S: Structure, R: Ranking>(listing: &mut Listing<'a, S, R>, call: Call) -> Reply
     ensures station { SameStation listing.old listing.new }
-    ensures called { Called S.Structure.works R.Ranking.outranks R.Ranking.keyed call (said_by result) listing.old listing.new }
+    ensures called { Called call (said_by result) listing.old listing.new }
 {
     match call {
         Call::Next => Reply::Next(listing.next()),
-        Call::Run(target, budget) => Reply::Run(listing.run(target, budget)),
+        Call::Run { target, budget } => Reply::Run(listing.run(target, budget)),
         Call::Figures => Reply::Figures(listing.figures()),
     }
 }
@@ -31,11 +31,12 @@ pub fn replay<S: Structure, R: Ranking>(
     pile: S,
     ranking: R,
     calls: &[Call],
-) -> Result<Replayed<S, R>, (S, R)>
-    ensures { MatchResult result (Replays S.Structure.works R.Ranking.outranks sheet.now pile ranking calls.now) (λ back. (back.0 ≡ pile) × (back.1 ≡ ranking)) }
+) -> Result<Replayed<S, R>, NotOpened<S, R>>
+    ensures { MatchResult result (Replays S.Structure.works R.Ranking.outranks sheet.now pile ranking calls.now) (λ back. (back.pile ≡ pile) × (back.ranking ≡ ranking)) }
 {
+    // No `map_err`: pile and ranking go into the listing or back.
     let Ok(mut replies) = Vec::with_capacity(heap, calls.len()) else {
-        return Err((pile, ranking));
+        return Err(NotOpened { pile, ranking });
     };
     let mut listing = Listing::open(heap, sheet, pile, ranking)?;
     for call in calls {

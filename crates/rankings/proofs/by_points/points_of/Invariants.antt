@@ -3,5 +3,5 @@ use Rattle.sheet.specs.Parts.{grades_of}
 use Rattle.rankings.specs.Points.{points_upto}
 use Rattle.rankings.proofs.by_points.points_of.Given as goal
 
-abbrev pub invariant-loop-l : goal.invariant-loop-l
-invariant-loop-l l = (l.sum ≡ points_upto (grades_of l.sheet) l.l l.state.number) × (l.sum ≤ 39 * l.l)
+abbrev pub invariant-loop-place : goal.invariant-loop-place
+invariant-loop-place l = (l.sum ≡ points_upto (grades_of l.sheet) l.place l.state.number) × (l.sum ≤ 39 * l.place)

@@ -3,7 +3,7 @@ use Rattle.std.proofs.lemmas.List.{take_more, take_all}
 use Rattle.calls.specs.declared.answers.Call.TheVariants as call
 use Rattle.calls.specs.declared.answers.Replied.{Replied}
 use Rattle.calls.proofs.Sources.{lawful}
-use Rattle.listing_calls.proofs.Calling.{same_itself, same_through}
+use Rattle.listing.proofs.Calling.{same_itself, same_through}
 use Rattle.replaying.proofs.Replaying.{Made, none_made, one_made, all_made, opened_station}
 use Rattle.replaying.proofs.carrying.replay.Goals as goal
 
@@ -14,8 +14,8 @@ loop-call-init g c =
       room.len,
       room.capacity,
       same_itself l,
-      subst (λ rs. Made g.S.Structure.works g.R.Ranking.outranks g.R.Ranking.keyed [] rs l) (sym room.items)
-          (none_made g.S.Structure.works g.R.Ranking.outranks g.R.Ranking.keyed l c.in_ok-listing.ensures.left),
+      subst (λ rs. Made [] rs l) (sym room.items)
+          (none_made l c.in_ok-listing.ensures.left),
     )
 
 pub loop-call-preserved : goal.loop-call-preserved
@@ -26,15 +26,12 @@ loop-call-preserved g c =
     let cs = c.args.calls.now in
     let rs = vec_items c.loop-call.replies in
     let r : Replied = record { reply = c.make-reply.result; figures = c.figures-figures.result } in
-    let here : i < length cs = omega arith in
-    let works = g.S.Structure.works in
-    let outranks = g.R.Ranking.outranks in
-    let keyed = g.R.Ranking.keyed in (
+    let here : i < length cs = omega arith in (
       omega (arith, c.push_reserved.ensures.len, c.loop-call.invariant.0),
       omega (arith, c.push_reserved.ensures.capacity, c.loop-call.invariant.1),
       same_through c.in_ok-listing.listing l l' c.loop-call.invariant.2 c.make-reply.ensures.station,
-      subst₂ (λ ds ts. Made works outranks keyed ds ts l') (sym (take_more cs i call.Next here)) (sym c.push_reserved.ensures.items)
-          (one_made works outranks keyed (take i cs) rs l l' c.loop-call.invariant.3 (get_or cs i call.Next) r c.make-reply.ensures.called c.figures-figures.ensures.value),
+      subst₂ (λ ds ts. Made ds ts l') (sym (take_more cs i call.Next here)) (sym c.push_reserved.ensures.items)
+          (one_made (take i cs) rs l l' c.loop-call.invariant.3 (get_or cs i call.Next) r c.make-reply.ensures.called c.figures-figures.ensures.value),
     )
 
 pub returns : goal.returns
@@ -50,9 +47,9 @@ returns g c =
     let opened = c.in_ok-listing.ensures in
     let same = c.loop-call.invariant.2 in
     let whole : take c.loop-call.call-index c.args.calls.now ≡ c.args.calls.now = take_all c.loop-call.call-index c.args.calls.now (omega arith) in
-    let made = subst (λ cs. Made works outranks g.R.Ranking.keyed cs (vec_items c.loop-call.replies) l') whole c.loop-call.invariant.3 in
+    let made = subst (λ cs. Made cs (vec_items c.loop-call.replies) l') whole c.loop-call.invariant.3 in
     record {
       pile_back = c.stop-stopped.ensures.pile ∙ same.pile ∙ opened.pile_is;
       ranking_back = c.stop-stopped.ensures.ranking ∙ same.ranking ∙ opened.ranking_is;
-      carried_out = all_made works outranks g.R.Ranking.keyed _ laws c.args.calls.now (vec_items c.loop-call.replies) l' (opened_station works outranks g.R.Ranking.keyed s pile ranking l l' opened same) made;
+      carried_out = all_made _ laws c.args.calls.now (vec_items c.loop-call.replies) l' (opened_station s pile ranking l l' opened same) made;
     }
