@@ -1,5 +1,5 @@
 -- Lists of bytes cut at a mark. Assumes nothing.
-use Rattle.std.specs.Prelude.{◌≡◌, ℕ, ◌+◌, ◌<◌, cond, List, [], ◌∷◌, ◌++◌, length, ◌==◌, ◌≢◌, slice_index}
+use Rattle.std.specs.Prelude.{◌≡◌, ℕ, ◌<◌, count_by, List, ◌∷◌, ◌++◌, length, ◌==◌, ◌≢◌, slice_index}
 
 -- the mark does not stand in the list
 abbrev pub Free : ℕ → List ℕ → Type 0
@@ -11,5 +11,4 @@ Cut mark xs front rest = (xs ≡ front ++ mark ∷ rest) × Free mark front
 
 -- how often the mark stands in the list
 abbrev pub marks : ℕ → List ℕ → ℕ
-marks mark [] = 0
-marks mark (x ∷ xs) = cond (x == mark) 1 0 + marks mark xs
+marks mark xs = count_by (λ x. x == mark) xs

@@ -1,5 +1,5 @@
 -- Each refusal's number in the table of refusals, and the layer it came from. Assumes nothing.
-use Rattle.std.specs.Prelude.{ℕ, List, [], ◌∷◌}
+use Rattle.std.specs.Prelude.{ℕ, List, [], ◌∷◌, codes}
 use Rattle.sheet.specs.Refusals.{add_refusal}
 use Rattle.sheet_lines.specs.declared.fault.Fault.{Fault}
 use Rattle.sheet_lines.specs.declared.fault.Layer.{Layer}
@@ -30,6 +30,12 @@ refusal_layer BadPart = layer.Line
 refusal_layer TooManyPaths = layer.Line
 refusal_layer (Draft error) = layer.Draft
 refusal_layer OutOfMemory = layer.Line
+
+-- the word of a layer
+abbrev pub layer_word : Layer → List ℕ
+layer_word layer.Text = codes "text"
+layer_word layer.Line = codes "line"
+layer_word layer.Draft = codes "draft"
 
 -- a fault's number and field, nothing for one without a number
 abbrev pub told : List ℕ → ℕ → List ℕ

@@ -1,5 +1,5 @@
 -- The words that begin lines. Assumes nothing.
-use Rattle.std.specs.Prelude.{◌≡◌, ℕ, cond, ◌&&◌, List, Some, None, codes, Option, ◌==◌, ◌≢◌}
+use Rattle.std.specs.Prelude.{◌≡◌, ℕ, List, Some, None, codes, Option, ◌≢◌}
 use Rattle.sheet_lines.specs.declared.kind.Kind.{Kind}
 use Rattle.sheet_lines.specs.declared.kind.Kind.TheVariants.{Part, Path, Feed}
 
@@ -13,10 +13,3 @@ word_of Feed = codes "feed"
 abbrev pub Names : List ℕ → Option Kind → Type 0
 Names word (Some kind) = word ≡ word_of kind
 Names word None = (kind : Kind) → word ≢ word_of kind
-
--- the kind that four letters name
-abbrev pub named : ℕ → ℕ → ℕ → ℕ → Option Kind
-named a b c d =
-    cond (a == 112 && (b == 97 && (c == 114 && d == 116))) (Some Part)
-    (cond (a == 112 && (b == 97 && (c == 116 && d == 104))) (Some Path)
-    (cond (a == 102 && (b == 101 && (c == 101 && d == 100))) (Some Feed) None))

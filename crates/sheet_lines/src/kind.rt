@@ -1,37 +1,30 @@
-ghost use Rattle.std.specs.Prelude.{◌≡◌};
-ghost use Rattle.sheet_lines.specs.Words.{named, Names};
+ghost use Rattle.sheet_lines.specs.Words.{Names};
 
 // What a line is about.
-#[derive(Clone, Copy)]
+#[derive(Clone, Copy, Debug, PartialEq, Eq)]
 pub enum Kind {
     Part,
     Path,
     Feed,
 }
 
-// The kind that four letters name.
-fn kind_named(letters: (char, char, char, char)) -> Option<Kind>
-    ensures { result ≡ named letters.0 letters.1 letters.2 letters.3 }
+// The kind of line that a word names.
+pub(crate) fn kind_of(word: &[u8]) -> Option<Kind>
+    ensures { Names word.now result }
 {
-    match letters {
+    let [first, second, third, fourth] = *word else {
+        return None;
+    };
+    // By chars, and not by the bytes of a word: a rule of the project.
+    match (
+        char::from(first),
+        char::from(second),
+        char::from(third),
+        char::from(fourth),
+    ) {
         ('p', 'a', 'r', 't') => Some(Kind::Part),
         ('p', 'a', 't', 'h') => Some(Kind::Path),
         ('f', 'e', 'e', 'd') => Some(Kind::Feed),
         _ => None,
     }
-}
-
-// The kind of line that a word names.
-pub(crate) fn kind_of(word: &[u8]) -> Option<Kind>
-    ensures { Names word.now result }
-{
-    if word.len() != 4 {
-        return None;
-    }
-    kind_named((
-        word[0] as char,
-        word[1] as char,
-        word[2] as char,
-        word[3] as char,
-    ))
 }

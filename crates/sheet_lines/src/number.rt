@@ -1,41 +1,27 @@
 ghost use Rattle.sheet_lines.specs.Numbers.{of_length, ReadsNumber};
-ghost use Rattle.std.specs.Prelude.{◌≡◌, ◌<◌, ◌≤◌, length, MatchOption};
-ghost use Rattle.std.specs.Str.Parse.{AllDigits, digits_value as worth};
+ghost use Rattle.std.specs.Prelude.{◌≡◌};
 
-// The number that digits write; none where there is another byte.
-fn digits_in(field: &[u8]) -> Option<u32>
-    requires { length field.now ≤ 8 }
-    ensures { MatchOption result (AllDigits 10 field.now → ⊥) (λ n. AllDigits 10 field.now × (n ≡ worth 10 field.now)) }
-{
-    let mut value = 0;
-    for byte in field {
-        if !byte.is_ascii_digit() {
-            return None;
-        }
-        value = value * 10 + (*byte - b'0') as u32;
-    }
-    Some(value)
-}
+use std::str;
 
 // Whether a field has 1 to 8 bytes, of which the first is no 0 unless it is the only one.
 fn is_of_length(field: &[u8]) -> bool
     ensures { result ≡ of_length field.now }
 {
-    if field.is_empty() {
-        return false;
+    match field {
+        [] => false,
+        [b'0', others @ ..] => others.is_empty(),
+        _ => field.len() <= 8,
     }
-    if field.len() > 8 {
-        return false;
-    }
-    field[0] != b'0' || field.len() == 1
 }
 
 // The number in a field: 1 to 8 digits with no leading zero, save 0 itself. None where it is not written so.
+#[tactic(auto, using(crate::proofs::Fields::other_length, crate::proofs::Fields::no_plus, crate::proofs::Fields::parsed))]
 pub fn number_in(field: &[u8]) -> Option<u32>
     ensures { ReadsNumber field.now result }
 {
-    if !is_of_length(field) {
+    // the library's `parse` takes a plus in front, which a field has not
+    if !is_of_length(field) || field[0] == b'+' {
         return None;
     }
-    digits_in(field)
+    str::from_utf8(field).ok()?.parse().ok()
 }

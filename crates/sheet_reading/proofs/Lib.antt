@@ -1,4 +1,3 @@
-pub mod BookSteps
 pub mod LineSteps
 pub mod NumberSteps
 pub mod PathSteps

@@ -1,15 +1,17 @@
 -- A text read line by line. Assumes nothing.
-use Rattle.std.proofs.Common.{◌≡◌, ℕ, suc, ◌+◌, ◌≤◌, List, [], ◌∷◌, ◌++◌, length, Ok, Err, sym, refl, ap, ◌∙◌, subst, inl, inr, arith}
+use Rattle.std.proofs.Common.{◌≡◌, ℕ, suc, ◌+◌, ◌≤◌, List, [], ◌∷◌, ◌++◌, length, Ok, Err, sym, ap, ◌∙◌, subst, inl, inr, arith}
 use Rattle.std.proofs.lemmas.List.{append-nil, append_assoc, length_push}
 use Rattle.sheet_lines.specs.Cuts.{Cut}
+use Rattle.sheet_lines.specs.Lines.{rest_of, NoLine}
 use Rattle.sheet_lines.specs.Texts.{after_commas, line_text}
 use Rattle.sheet_lines.specs.Tokens.{kind_in, fields_in, line_of, Parted}
 use Rattle.sheet_lines.specs.Words.{word_of}
 use Rattle.sheet_lines.specs.declared.fault.Fault.{Fault}
+use Rattle.sheet_lines.specs.declared.line_reader.LineReader.{LineReader}
 use Rattle.sheet_lines.specs.declared.token.Token.{Token}
 use Rattle.sheet_reading.specs.Books.{content_of, TakesLine}
 use Rattle.sheet_reading.specs.Numbers.{Written}
-use Rattle.sheet_reading.specs.Readings.{Row, rows_text, Beginning, none, more, LineFault, no_number, no_rule, Holds, FirstFaulty}
+use Rattle.sheet_reading.specs.Readings.{Row, rows_text, Beginning, none, more, LineFault, no_end, no_token, no_number, no_rule, Holds, FirstFaulty}
 use Rattle.sheet_reading.specs.Rules.{Content, nothing}
 use Rattle.sheet_reading.specs.declared.book.Book.{Book}
 use Rattle.sheet_reading.specs.declared.stage.Stage.TheVariants as stage
@@ -42,7 +44,7 @@ module _ (most : ℕ) (text : List ℕ) (b : Book) (rest : List ℕ) (lines : �
       let r : Row = record { kind = kind_in t; numbers = ns } in
       record {
         rows = so.rows ++ r ∷ [];
-        beginning = more so.rows r so.beginning (numbers_many t ns (kind_in t) parted w refl) w.1 kept adds;
+        beginning = more so.rows r so.beginning (numbers_many t ns parted w) w.1 kept adds;
         bytes = so.bytes ∙ ap (λ v. rows_text so.rows ++ v) (cut.0 ∙ row_line t ns after w) ∙ sym (append_assoc (rows_text so.rows) (line_text (kind_in t) ns) after) ∙ ap (λ v. v ++ after) (sym (rows_push so.rows r));
         many = length_push so.rows r ∙ ap (λ n. n + 1) so.many ∙ sym e;
       }
@@ -51,6 +53,11 @@ module _ (most : ℕ) (text : List ℕ) (b : Book) (rest : List ℕ) (lines : �
   pub line_faulty : (line : ℕ) (f : Fault) (b' : Book) → TakesLine most b t line (Err f) b' → LineFault most (content_of b) rest line f
   line_faulty line f b' (inl number) = no_number t after cut parted number
   line_faulty line f b' (inr (ns, w, told, at)) = no_rule t after ns cut parted w told at
+
+-- or one that has no end, or is no token
+pub no_line : (most : ℕ) (c : Content) (r : LineReader) (f : Fault) → NoLine r f → LineFault most c (rest_of r) (r.lines + 1) f
+no_line most c r f (inl (some, free, is)) = no_end some free is
+no_line most c r f (inr (bytes, after, cut, fault)) = no_token bytes after cut fault
 
 -- the fault of the line that comes after those read
 pub faulty_at : (most : ℕ) (text : List ℕ) (c : Content) (rest : List ℕ) (lines line : ℕ) (f : Fault) → length text ≤ 65536 → SoFar most text c rest lines → line ≡ lines + 1 → LineFault most c rest line f → FirstFaulty most text f

@@ -1,5 +1,5 @@
 -- The numbers of a line's fields. Assumes nothing.
-use Rattle.std.specs.Prelude.{◌≡◌, ℕ, ◌+◌, ◌^◌, ◌<◌, ◌⊎◌, List, [], ◌∷◌, ◌++◌, length, Ok, Err, Result, slice_index}
+use Rattle.std.specs.Prelude.{◌≡◌, ℕ, ◌+◌, ◌^◌, ◌<◌, ◌⊎◌, List, [], ◌∷◌, ◌++◌, length, slice_index}
 use Rattle.std.specs.List.{AllByRecursion}
 use Rattle.sheet_lines.specs.Cuts.{Free}
 use Rattle.sheet_lines.specs.Numbers.{Writes}
@@ -31,10 +31,3 @@ abbrev pub NumberFault : List ℕ → ℕ → Fault → Type 0
 NumberFault xs line f =
     (f ≡ record { refusal = refusal.OutOfMemory; line = line; field = 0 })
     ⊎ ((i : ℕ) × IsBadNumber xs i × (f ≡ record { refusal = refusal.BadNumber; line = line; field = i + 2 }))
-
--- one more field was read after the numbers ns
-abbrev pub OneMore : List ℕ → List ℕ → ℕ → Result (Unit {0}) Fault → List ℕ → Type 0
-OneMore ns field line (Ok u) ns' = (n : ℕ) × Writes field n × (ns' ≡ ns ++ n ∷ [])
-OneMore ns field line (Err f) ns' =
-    (f ≡ record { refusal = refusal.OutOfMemory; line = line; field = 0 })
-    ⊎ (((n : ℕ) → Writes field n → ⊥) × (f ≡ record { refusal = refusal.BadNumber; line = line; field = length ns + 2 }))

@@ -4,6 +4,7 @@
 mod book;
 mod numbers;
 mod path;
+mod reading;
 mod stage;
 
 pub use stage::Stage;

@@ -4,7 +4,7 @@ ghost use Rattle.sheet_reading.specs.Stages.{next_stage};
 use sheet_lines::Kind;
 
 // How far a text has come: among its parts, among its paths, or past its feed.
-#[derive(Clone, Copy)]
+#[derive(Clone, Copy, Debug, PartialEq, Eq)]
 pub enum Stage {
     Parts,
     Paths,
@@ -18,10 +18,8 @@ impl Stage {
     {
         match (self, kind) {
             (Stage::Parts, Kind::Part) => Some(Stage::Parts),
-            (Stage::Parts, Kind::Path) => Some(Stage::Paths),
-            (Stage::Paths, Kind::Path) => Some(Stage::Paths),
-            (Stage::Parts, Kind::Feed) => Some(Stage::Done),
-            (Stage::Paths, Kind::Feed) => Some(Stage::Done),
+            (Stage::Parts | Stage::Paths, Kind::Path) => Some(Stage::Paths),
+            (Stage::Parts | Stage::Paths, Kind::Feed) => Some(Stage::Done),
             _ => None,
         }
     }

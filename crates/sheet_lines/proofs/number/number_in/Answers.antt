@@ -1,9 +1,6 @@
-use Rattle.std.proofs.Common.{sym}
-use Rattle.sheet_lines.proofs.Fields.{other_length, read_right}
+use Rattle.std.proofs.Common.{rules}
+use Rattle.sheet_lines.proofs.Fields.{not_text}
 use Rattle.sheet_lines.proofs.number.number_in.Goals as goal
 
-pub returns-then-not-is_of_length : goal.returns-then-not-is_of_length
-returns-then-not-is_of_length c = λ n. other_length c.args.field.now n (sym c.if-not-is_of_length.ensures)
-
-pub returns : goal.returns
-returns c = read_right c.args.field.now c.digits_in.result (sym c.if-not-is_of_length.ensures) c.digits_in.ensures
+pub returns-in_err-ok : goal.returns-in_err-ok
+returns-in_err-ok c = rw c.from_residual.ensures (λ n w. search (rules, not_text))

@@ -1,20 +1,8 @@
 use Rattle.std.proofs.Common.{◌≡◌, ◌+◌, ◌<◌, get_or, drop, sym, ap, ◌∙◌, arith}
-use Rattle.std.proofs.lemmas.List.{at_drop_more, at_drop_all}
+use Rattle.std.proofs.lemmas.List.{at_drop_more}
 use Rattle.sheet_reading.specs.Paths.{first_off, set_of}
-use Rattle.sheet_reading.proofs.PathSteps.{not_rising, not_on_sheet, on_sheet, place_is, set_grows}
+use Rattle.sheet_reading.proofs.PathSteps.{on_sheet, place_is, set_grows}
 use Rattle.sheet_reading.proofs.path.path_of.Goals as goal
-
-pub returns-then-number-last : goal.returns-then-number-last
-returns-then-number-last c =
-    let ms = c.args.numbers.now in
-    let i = c.loop-place.place in
-    sym c.loop-place.invariant.0 ∙ at_drop_more (first_off c.args.parts c.loop-place.last (i + 2)) ms i 0 c.loop-place-test.true ∙ not_rising c.args.parts c.loop-place.last (i + 2) (get_or ms i 0) (drop (i + 1) ms) c.if-number-last.true
-
-pub returns-then-number-parts : goal.returns-then-number-parts
-returns-then-number-parts c =
-    let ms = c.args.numbers.now in
-    let i = c.loop-place.place in
-    sym c.loop-place.invariant.0 ∙ at_drop_more (first_off c.args.parts c.loop-place.last (i + 2)) ms i 0 c.loop-place-test.true ∙ not_on_sheet c.args.parts c.loop-place.last (i + 2) (get_or ms i 0) (drop (i + 1) ms) c.if-number-parts.true
 
 pub loop-place-preserved : goal.loop-place-preserved
 loop-place-preserved c =
@@ -30,9 +18,3 @@ loop-place-preserved c =
       omega (arith, set_grows set last m c.loop-place.invariant.2 above, place),
       c.if-number-parts.false,
     )
-
-pub returns : goal.returns
-returns c =
-    let ms = c.args.numbers.now in
-    let i = c.loop-place.place in
-    (sym c.loop-place.invariant.0 ∙ at_drop_all (first_off c.args.parts c.loop-place.last (i + 2)) ms i (omega arith), omega (arith, c.loop-place.invariant.1, at_drop_all set_of ms i (omega arith)))

@@ -1,23 +1,27 @@
-use Rattle.std.proofs.Common.{length, get_or, sym, refl, ap, ◌∙◌, subst, arith}
-use Rattle.std.proofs.lemmas.List.{length_push}
-use Rattle.sheet.specs.Parts.{drafted}
-use Rattle.sheet_reading.specs.Books.{content_of}
-use Rattle.sheet_reading.proofs.BookSteps.{to_parts, kept_by_draft, same_grade, part_rules, same_content, KeptByDraft}
+use Rattle.std.proofs.Common.{◌≡◌, ℕ, true, List, [], ◌∷◌, ◌++◌, Ok, Err, Result, sym, ap, ◌∙◌, arith}
+use Rattle.std.proofs.lemmas.Grind.{common_steps}
+use Rattle.std.proofs.lemmas.Result.{err_from_is_err_and}
+use Rattle.std.specs.Result.{is_ok}
+use Rattle.sheet.specs.Adding.{adding_refused, Added}
+use Rattle.sheet.specs.Parts.{drafted, grade_of}
+use Rattle.sheet.specs.declared.part.Part.{Part}
+use Rattle.sheet.specs.declared.part_number.PartNumber.{PartNumber}
+use Rattle.sheet.specs.declared.refusal.AddError.{AddError}
 use Rattle.sheet_reading.proofs.book.Book.take_part.Goals as goal
 
-pub invariant_of-self : goal.invariant_of-self
-invariant_of-self c =
-    let b = c.args.self.now in
-    let added = c.in-Ok.ensures in
-    record { counted = omega (arith, b.counted, ap length added.2.3, length_push (drafted b.draft) added.2.0) }
+-- the part that a draft took
+took : (ps : List Part) (grade cents : ℕ) (r : Result PartNumber AddError) (ps' : List Part) → is_ok r ≡ true → Added ps grade cents r ps'
+    → (adding_refused ps grade cents ≡ []) × ((p : Part) × (grade_of p ≡ grade) × (p.cents ≡ cents) × (ps' ≡ ps ++ p ∷ []))
+took ps grade cents (Ok i) ps' ok added = (added.0, added.2)
+took ps grade cents (Err e) ps' ok added = absurd cc
 
-pub returns-in-Ok : goal.returns-in-Ok
-returns-in-Ok c = λ most.
-    let b = c.args.self.now in
-    let added = c.in-Ok.ensures in
-    let kept = kept_by_draft (drafted b.draft) c.grade_of.result (get_or c.args.numbers.now 2 0) added.0 in
-    let same = same_grade (get_or c.args.numbers.now 1 0) c.grade_of.result c.grade_of.ensures kept.known in
-    let kept' = subst (KeptByDraft (drafted b.draft)) same kept in (
-      part_rules most (content_of b) c.args.numbers.now c.in-Some.stage (sym c.in-Some.ensures) (omega (arith, c.if-numbers-self.false, b.counted)) kept',
-      (added.2.0, added.2.1 ∙ same, added.2.2, same_content _ _ _ _ _ _ _ added.2.3 refl (to_parts b.stage c.in-Some.stage (sym c.in-Some.ensures))),
-    )
+pub returns-in_err-map_err : goal.returns-in_err-map_err
+returns-in_err-map_err c =
+    let p = err_from_is_err_and c.from_residual-in_err-map_err.result c.from_residual-in_err-map_err.ensures.1 in
+    rw (p.1, p.2) (λ most. grind (arith, common_steps))
+
+pub returns : goal.returns
+returns c = λ most.
+    let ok : is_ok c.add.result ≡ true = sym c.map_err.ensures.variant ∙ ap is_ok c.in_ok-map_err.was in
+    let added = took (drafted c.args.self.now.draft) c.grade_of.result c.args.cents c.add.result (drafted c.add.new.self) ok c.add.ensures in
+    (grind (arith, common_steps, added.0), (added.1.0, grind (arith, common_steps, added.0, added.1.1), added.1.2, grind (arith, common_steps, added.1.3)))

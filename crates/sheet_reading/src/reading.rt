@@ -19,11 +19,7 @@ fn read_lines(heap: Global, text: &[u8], most: usize) -> Result<Book, Fault>
         lines = line.number;
     }
     if !book.is_done() {
-        return Err(Fault {
-            refusal: Refusal::OutOfTurn,
-            line: lines + 1,
-            field: 1,
-        });
+        return Err(Refusal::OutOfTurn.at(lines + 1, 1));
     }
     Ok(book)
 }
