@@ -1,3 +1,4 @@
 pub mod Cutting
 pub mod Fields
 pub mod Reading
+pub mod Texts

@@ -1,5 +1,5 @@
 -- The numbers of fields, one by one. Assumes nothing.
-use Rattle.std.proofs.Common.{◌≡◌, ℕ, ◌+◌, ◌^◌, ◌<◌, ◌≤◌, ◌⊎◌, cond, eqb, List, [], ◌∷◌, ◌++◌, length, get_or, decimal, sym, refl, ap, ◌∙◌, subst, inl, inr, arith}
+use Rattle.std.proofs.Common.{◌≡◌, ℕ, ◌+◌, ◌^◌, ◌<◌, ◌≤◌, ◌⊎◌, cond, eqb, List, [], ◌∷◌, ◌++◌, length, get_or, decimal, sym, refl, ap, ◌∙◌, subst, inl, inr, arith, lit<}
 use Rattle.std.proofs.ByRecursion.{All-push}
 use Rattle.std.proofs.lemmas.List.{append-nil, append_assoc}
 use Rattle.std.proofs.lemmas.List.Sums.{sum_by-append}
@@ -10,15 +10,12 @@ use Rattle.sheet_lines.specs.Tokens.{kind_in, fields_in, Parted, RightCount}
 use Rattle.sheet_lines.specs.declared.token.Token.{Token}
 use Rattle.sheet_lines.specs.declared.token.Token.TheVariants as token
 use Rattle.sheet_lines.proofs.Cutting.{marks_free, marks_cut}
+use Rattle.sheet_lines.proofs.Texts.{commas_push}
 use Rattle.sheet_lines.specs.Numbers.{Writes}
 use Rattle.sheet_lines.specs.Texts.{after_commas}
 use Rattle.sheet_lines.specs.declared.fault.Fault.{Fault}
 use Rattle.sheet_lines.specs.declared.fault.Refusal.TheVariants as refusal
 use Rattle.sheet_reading.specs.Numbers.{Short, Written, NumberFault}
-
-pub commas_push : (ns : List ℕ) (n : ℕ) → after_commas (ns ++ n ∷ []) ≡ after_commas ns ++ (44 ∷ decimal n)
-commas_push [] n = ap (λ xs. 44 ∷ xs) (append-nil (decimal n))
-commas_push (m ∷ ms) n = ap (λ xs. 44 ∷ (decimal m ++ xs)) (commas_push ms n) ∙ ap (λ xs. 44 ∷ xs) (sym (append_assoc (decimal m) (after_commas ms) (44 ∷ decimal n)))
 
 -- of xs the numbers ns were read, and this is left
 pub record Progress (xs ns left : List ℕ) : Type 0 where
@@ -99,35 +96,35 @@ module _ (a b c : List ℕ) where
   pub first_bad : (line : ℕ) (f : Fault) → Free 44 a → ((n : ℕ) → Writes a n → ⊥) → f ≡ record { refusal = refusal.BadNumber; line = line; field = 2 } → NumberFault fields line f
   first_bad line f free = bad_number fields [] fields a second (begun fields) refl line f free (inr refl)
 
-nothing_free : Free 44 []
-nothing_free k h e = omega (arith, h)
+nothing_free : (mark : ℕ) → Free mark []
+nothing_free mark k h e = omega (arith, h)
 
-commas_append : (xs ys : List ℕ) → marks 44 (xs ++ ys) ≡ marks 44 xs + marks 44 ys
-commas_append xs ys = sum_by-append (λ y. cond (eqb y 44) 1 0) xs ys
+pub marks_append : (mark : ℕ) (xs ys : List ℕ) → marks mark (xs ++ ys) ≡ marks mark xs + marks mark ys
+marks_append mark xs ys = sum_by-append (λ y. cond (eqb y mark) 1 0) xs ys
 
--- no comma stands in a number
-decimal_marks : (n : ℕ) → n < 10 ^ 8 → marks 44 (decimal n) ≡ 0
-decimal_marks n small =
+-- no comma and no end of a line stands in a number
+pub decimal_marks : (mark : ℕ) → mark < 48 → (n : ℕ) → n < 10 ^ 8 → marks mark (decimal n) ≡ 0
+decimal_marks mark low n small =
     let digits = (decimal_is_IsNumeral n (omega (arith, small))).0.1 in
-    marks_free 44 (decimal n) (λ k h e. let here = digit_at (decimal n) k digits h in omega (arith, here, e))
+    marks_free mark (decimal n) (λ k h e. let here = digit_at (decimal n) k digits h in omega (arith, here, e, low))
 
 pub written_many : (xs ns : List ℕ) → Written xs ns → marks 44 xs ≡ length ns
 written_many xs ns w = ap (marks 44) w.0 ∙ many ns w.1
   where
     many : (ms : List ℕ) → Short ms → marks 44 (after_commas ms) ≡ length ms
     many [] short = refl
-    many (m ∷ ms) short = omega (arith, marks_cut 44 [] (decimal m ++ after_commas ms) nothing_free, commas_append (decimal m) (after_commas ms), decimal_marks m short.0, many ms short.1)
+    many (m ∷ ms) short = omega (arith, marks_cut 44 [] (decimal m ++ after_commas ms) (nothing_free 44), marks_append 44 (decimal m) (after_commas ms), decimal_marks 44 (lit< tt) m short.0, many ms short.1)
 
 -- how many numbers a token has
-token_many : (t : Token) → Parted t → RightCount (kind_in t) (marks 44 (44 ∷ fields_in t))
+pub token_many : (t : Token) → Parted t → RightCount (kind_in t) (marks 44 (44 ∷ fields_in t))
 token_many (token.Part number grade cents) p =
-    omega (arith, marks_cut 44 [] (number.now ++ (44 ∷ grade.now ++ (44 ∷ cents.now))) nothing_free, marks_cut 44 number.now (grade.now ++ (44 ∷ cents.now)) p.0, marks_cut 44 grade.now cents.now p.1, marks_free 44 cents.now p.2)
-token_many (token.Path numbers) p = let one = marks_cut 44 [] numbers.now nothing_free in (omega arith, omega (arith, p))
-token_many (token.Feed number) p = omega (arith, marks_cut 44 [] number.now nothing_free, marks_free 44 number.now p)
+    omega (arith, marks_cut 44 [] (number.now ++ (44 ∷ grade.now ++ (44 ∷ cents.now))) (nothing_free 44), marks_cut 44 number.now (grade.now ++ (44 ∷ cents.now)) p.0, marks_cut 44 grade.now cents.now p.1, marks_free 44 cents.now p.2)
+token_many (token.Path numbers) p = let one = marks_cut 44 [] numbers.now (nothing_free 44) in (omega arith, omega (arith, p))
+token_many (token.Feed number) p = omega (arith, marks_cut 44 [] number.now (nothing_free 44), marks_free 44 number.now p)
 
 pub numbers_many : (t : Token) (ns : List ℕ) → Parted t → Written (44 ∷ fields_in t) ns → RightCount (kind_in t) (length ns)
 numbers_many t ns parted w = subst (RightCount (kind_in t)) (written_many (44 ∷ fields_in t) ns w) (token_many t parted)
 
 -- a path has at most 40
 pub few_numbers : (numbers ns : List ℕ) → marks 44 numbers < 40 → Written (44 ∷ numbers) ns → length ns ≤ 40
-few_numbers numbers ns few w = omega (arith, few, written_many (44 ∷ numbers) ns w, marks_cut 44 [] numbers nothing_free)
+few_numbers numbers ns few w = omega (arith, few, written_many (44 ∷ numbers) ns w, marks_cut 44 [] numbers (nothing_free 44))

@@ -17,7 +17,7 @@ use Rattle.sheet_reading.specs.declared.book.Book.{Book}
 use Rattle.sheet_reading.specs.declared.stage.Stage.TheVariants as stage
 use Rattle.sheet_reading.proofs.NumberSteps.{numbers_many}
 
-rows_push : (rows : List Row) (r : Row) → rows_text (rows ++ r ∷ []) ≡ rows_text rows ++ line_text r.kind r.numbers
+pub rows_push : (rows : List Row) (r : Row) → rows_text (rows ++ r ∷ []) ≡ rows_text rows ++ line_text r.kind r.numbers
 rows_push [] r = append-nil (line_text r.kind r.numbers)
 rows_push (q ∷ qs) r = ap (λ v. line_text q.kind q.numbers ++ v) (rows_push qs r) ∙ sym (append_assoc (line_text q.kind q.numbers) (rows_text qs) (line_text r.kind r.numbers))
 

@@ -1,5 +1,5 @@
 -- What a reader's book holds, and what it does with a line. Assumes nothing.
-use Rattle.std.specs.Prelude.{◌≡◌, ℕ, Bool, true, false, ◌⊎◌, List, [], ◌∷◌, Some, None, Ok, Err, vec_items, Option, Result}
+use Rattle.std.specs.Prelude.{◌≡◌, ℕ, ◌⊎◌, List, [], ◌∷◌, Some, None, Ok, Err, vec_items, Option, Result}
 use Rattle.sheet.specs.Parts.{drafted}
 use Rattle.sheet.specs.declared.part_number.PartNumber.{PartNumber}
 use Rattle.sheet.specs.declared.refusal.AddError.{AddError}
@@ -12,19 +12,11 @@ use Rattle.sheet_lines.specs.declared.token.Token.{Token}
 use Rattle.sheet_reading.specs.Numbers.{Written, NumberFault}
 use Rattle.sheet_reading.specs.Rules.{Content, rules, broken, Adds}
 use Rattle.sheet_reading.specs.declared.book.Book.{Book}
-use Rattle.sheet_reading.specs.declared.stage.Stage.{Stage}
-use Rattle.sheet_reading.specs.declared.stage.Stage.TheVariants as stage
 
 -- the number of a part, 0 for none
 abbrev pub number_or_0 : Option PartNumber → ℕ
 number_or_0 None = 0
 number_or_0 (Some p) = p.number
-
--- the feed line was read
-abbrev pub done_at : Stage → Bool
-done_at stage.Parts = false
-done_at stage.Paths = false
-done_at stage.Done = true
 
 abbrev pub content_of : Book → Content
 content_of b = record { parts = drafted b.draft; paths = vec_items b.paths; at = b.stage; feed = number_or_0 b.feed }

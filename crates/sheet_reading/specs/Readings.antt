@@ -1,5 +1,6 @@
 -- What reading a text answers: what it holds, or its first faulty line. Assumes nothing.
-use Rattle.std.specs.Prelude.{◌≡◌, ℕ, suc, ◌<◌, ◌≤◌, ◌⊎◌, List, [], ◌∷◌, ◌++◌, length, Err, ◌≢◌}
+use Rattle.std.specs.Prelude.{◌≡◌, ℕ, suc, ◌<◌, ◌≤◌, ◌⊎◌, List, [], ◌∷◌, ◌++◌, length, min, drop, Ok, Err, Result, ◌≢◌}
+use Rattle.sheet.specs.declared.part.Part.{Part}
 use Rattle.sheet_lines.specs.Cuts.{Free, Cut}
 use Rattle.sheet_lines.specs.Faults.{told_by}
 use Rattle.sheet_lines.specs.Lines.{TokenAt}
@@ -11,6 +12,7 @@ use Rattle.sheet_lines.specs.declared.kind.Kind.{Kind}
 use Rattle.sheet_lines.specs.declared.token.Token.{Token}
 use Rattle.sheet_reading.specs.Numbers.{Short, Written, NumberFault}
 use Rattle.sheet_reading.specs.Rules.{Content, nothing, rules, broken, Adds}
+use Rattle.sheet_reading.specs.declared.found.Found.{Found}
 use Rattle.sheet_reading.specs.declared.stage.Stage.TheVariants as stage
 
 -- a line: its kind and its numbers
@@ -66,3 +68,29 @@ abbrev pub RefusedText : ℕ → List ℕ → Fault → Type 0
 RefusedText most text f =
     ((65536 < length text) × (f ≡ record { refusal = refusal.TextTooLong; line = 0; field = 0 }))
     ⊎ FirstFaulty most text f
+
+-- so many paths a text may have: 256, or as many as the caller's list has entries
+abbrev pub most_paths : List ℕ → ℕ
+most_paths list = min (length list) 256
+
+-- what was answered and left is the content c: its parts are the draft's, its paths the first entries of the list, of which the others are as they were
+pub record Gives (c : Content) (list : List ℕ) (found : Found) (parts' : List Part) (list' : List ℕ) : Type 0 where
+  pub parts : parts' ≡ c.parts
+  pub paths : list' ≡ c.paths ++ drop (length c.paths) list
+  pub path_count : found.path_count ≡ length c.paths
+  pub feed : found.feed.number ≡ c.feed
+
+-- what reading a text answers, and leaves in the draft and in the caller's list: what the text holds; or its fault, and both as they were
+abbrev pub Reads : List ℕ → List Part → List ℕ → Result Found Fault → List Part → List ℕ → Type 0
+Reads text parts list (Ok found) parts' list' = (c : Content) × Holds (most_paths list) text c × Gives c list found parts' list'
+Reads text parts list (Err f) parts' list' = RefusedText (most_paths list) text f × (parts' ≡ parts) × (list' ≡ list)
+
+-- the fault has no number: memory was wanting
+abbrev pub OfMemory : Fault → Type 0
+OfMemory f = told_by f ≡ []
+
+-- what is said of a text is one thing: it holds nothing else, is not refused but for want of memory if it holds something, and has no other fault
+pub record Exact (most : ℕ) (text : List ℕ) : Type 0 where
+  pub one_content : (c d : Content) → Holds most text c → Holds most text d → c ≡ d
+  pub never_refused : (c : Content) (f : Fault) → Holds most text c → RefusedText most text f → OfMemory f
+  pub one_fault : (f g : Fault) → RefusedText most text f → RefusedText most text g → (f ≡ g) ⊎ OfMemory f ⊎ OfMemory g

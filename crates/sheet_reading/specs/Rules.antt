@@ -33,6 +33,10 @@ rule kept number field = record { kept = kept; number = number; field = field }
 abbrev pub in_turn : Content → Kind → Bool
 in_turn c k = is_some (next_stage c.at k)
 
+-- the line of a part of this number comes in its turn, and the number is the next
+abbrev pub is_next : Content → ℕ → Bool
+is_next c number = in_turn c kind.Part && number == suc (length c.parts)
+
 -- no number of a path is wrong
 abbrev pub rising : List ℕ → Rule
 rising [] = rule true 19 0
@@ -41,7 +45,7 @@ rising (place ∷ places) = rule false 19 place
 -- the rules of a line of this kind with these numbers, in their order, where so many paths are allowed
 abbrev pub rules : ℕ → Content → Kind → List ℕ → List Rule
 rules most c kind.Part ns =
-    rule (in_turn c kind.Part && slice_index ns 0 == suc (length c.parts)) 18 1
+    rule (is_next c (slice_index ns 0)) 18 1
     ∷ (rule (nat_lt (length c.parts) 40) 5 2
     ∷ (rule (nat_le (slice_index ns 1) 39) 2 3
     ∷ (rule (nat_le (last_or 0 (map grade_of c.parts)) (slice_index ns 1)) 4 3 ∷ [])))

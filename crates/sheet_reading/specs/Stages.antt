@@ -1,5 +1,5 @@
 -- Which kinds of line may follow which. Assumes nothing.
-use Rattle.std.specs.Prelude.{Some, None, Option}
+use Rattle.std.specs.Prelude.{Bool, true, false, Some, None, Option}
 use Rattle.sheet_lines.specs.declared.kind.Kind.{Kind}
 use Rattle.sheet_lines.specs.declared.kind.Kind.TheVariants as kind
 use Rattle.sheet_reading.specs.declared.stage.Stage.{Stage}
@@ -16,3 +16,9 @@ next_stage Paths kind.Feed = Some Done
 next_stage Done kind.Part = None
 next_stage Done kind.Path = None
 next_stage Done kind.Feed = None
+
+-- the feed line was read
+abbrev pub done_at : Stage → Bool
+done_at Parts = false
+done_at Paths = false
+done_at Done = true

@@ -1,13 +1,11 @@
-ghost use Rattle.std.specs.Prelude.{◌≡◌, ℕ, ◌≤◌, [], ◌∷◌, true, false, ◌&&◌, leb, length, if◌then◌else◌, MatchOption, MatchResult, nat_le};
-ghost use Rattle.sheet_lines.specs.Tokens.{Parted};
-ghost use Rattle.sheet_reading.specs.Books.{content_of, Takes, TakesLine, add_field, done_at};
-ghost use Rattle.sheet_reading.specs.Rules.{nothing};
-ghost use Rattle.sheet_reading.specs.Stages.{next_stage};
+ghost use Rattle.std.specs.Prelude.{◌≡◌, ℕ, ◌≤◌, [], ◌∷◌, true, false, length, is_some, MatchResult};
+ghost use Rattle.sheet_reading.specs.Stages.{next_stage, done_at};
 
 use crate::numbers::{number_at, path_numbers};
+use crate::parts::{fault_of_part, grade_of, part_on_sheet};
 use crate::path::path_of;
 use crate::stage::Stage;
-use sheet::{AddError, Draft, PartNumber};
+use sheet::{Draft, PartNumber};
 use sheet_lines::{Fault, Kind, Line, Refusal, Token};
 use std::alloc::Global;
 
@@ -18,38 +16,14 @@ pub(crate) struct Book {
     pub(crate) paths: Vec<u64>,
     pub(crate) stage: Stage,
     pub(crate) feed: Option<PartNumber>,
-}
-
-// The part of this number on a sheet of so many parts.
-fn part_on_sheet(number: u32, parts: usize) -> Option<PartNumber>
-    requires { parts ≤ 40 }
-    ensures { MatchOption result ((nat_le 1 number && nat_le number parts) ≡ false) (λ p. ((nat_le 1 number && nat_le number parts) ≡ true) × (p.number ≡ number)) }
-{
-    let part = PartNumber::try_from(u8::try_from(number).ok()?).ok()?;
-    (usize::from(part.number()) <= parts).then_some(part)
-}
-
-// A grade as a draft takes it: what is above 255 is refused as 255 is.
-fn grade_of(number: u32) -> u8
-    ensures { result ≡ (if leb number 255 then number else 255) }
-{
-    u8::try_from(number).unwrap_or(u8::MAX)
-}
-
-// The fault of a part that a draft refused.
-fn fault_of_part(error: AddError, line: usize) -> Fault
-    ensures { result ≡ record { refusal = Refusal.Draft error; line = line; field = add_field error } }
-{
-    let field = match error {
-        AddError::SheetFull => 2,
-        AddError::GradeTooHigh | AddError::GradeFalls => 3,
-        AddError::PriceTooHigh => 4,
-        AddError::OutOfMemory => 0,
-    };
-    Refusal::Draft(error).at(line, field)
+    ghost fed: { done_at stage ≡ is_some feed },
 }
 
 impl Book {
+    ghost use Rattle.sheet_lines.specs.Tokens.{Parted};
+    ghost use Rattle.sheet_reading.specs.Books.{content_of, Takes, TakesLine};
+    ghost use Rattle.sheet_reading.specs.Rules.{nothing, is_next};
+
     // An empty book.
     pub(crate) fn new(heap: Global) -> Book
         ensures { content_of result ≡ nothing }
@@ -60,13 +34,6 @@ impl Book {
             stage: Stage::Parts,
             feed: None,
         }
-    }
-
-    // Whether the feed line was read.
-    pub(crate) fn is_done(&self) -> bool
-        ensures { result ≡ done_at self.now.stage }
-    {
-        matches!(self.stage, Stage::Done)
     }
 
     // The stage after a line of this kind, where it comes in its turn.
@@ -104,15 +71,23 @@ impl Book {
         Ok(())
     }
 
-    // Takes the line of a part.
-    fn take_part(&mut self, number: u32, grade: u32, cents: u32, line: usize) -> Result<(), Fault>
-        requires { cents ≤ 99999999 }
-        ensures { (most : ℕ) → Takes most self.old Kind.Part (number ∷ (grade ∷ (cents ∷ []))) line result self.new }
+    // The stage after the line of a part of this number, where it comes in its turn and is the next.
+    fn stage_after_part(&self, number: u32, line: usize) -> Result<Stage, Fault>
+        ensures { MatchResult result (λ s. (s ≡ Stage.Parts) × (is_next (content_of self.now) number ≡ true)) (λ f. (is_next (content_of self.now) number ≡ false) × (f ≡ record { refusal = Refusal.OutOfTurn; line = line; field = 1 })) }
     {
         let stage = self.stage_after(Kind::Part, line)?;
         if number as usize != self.draft.count() + 1 {
             return Err(Refusal::OutOfTurn.at(line, 1));
         }
+        Ok(stage)
+    }
+
+    // Takes the line of a part.
+    fn take_part(&mut self, number: u32, grade: u32, cents: u32, line: usize) -> Result<(), Fault>
+        requires { cents ≤ 99999999 }
+        ensures { (most : ℕ) → Takes most self.old Kind.Part (number ∷ (grade ∷ (cents ∷ []))) line result self.new }
+    {
+        let stage = self.stage_after_part(number, line)?;
         self.draft
             .add(grade_of(grade), cents)
             .map_err(|error| fault_of_part(error, line))?;

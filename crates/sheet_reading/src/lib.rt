@@ -2,9 +2,13 @@
 #![tactic(auto)]
 
 mod book;
+mod found;
 mod numbers;
+mod parts;
 mod path;
 mod reading;
 mod stage;
 
+pub use found::Found;
+pub use reading::read;
 pub use stage::Stage;

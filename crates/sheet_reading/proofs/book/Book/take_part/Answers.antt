@@ -1,6 +1,5 @@
 use Rattle.std.proofs.Common.{◌≡◌, ℕ, true, List, [], ◌∷◌, ◌++◌, Ok, Err, Result, sym, ap, ◌∙◌, arith}
 use Rattle.std.proofs.lemmas.Grind.{common_steps}
-use Rattle.std.proofs.lemmas.Result.{err_from_is_err_and}
 use Rattle.std.specs.Result.{is_ok}
 use Rattle.sheet.specs.Adding.{adding_refused, Added}
 use Rattle.sheet.specs.Parts.{drafted, grade_of}
@@ -14,11 +13,6 @@ took : (ps : List Part) (grade cents : ℕ) (r : Result PartNumber AddError) (ps
     → (adding_refused ps grade cents ≡ []) × ((p : Part) × (grade_of p ≡ grade) × (p.cents ≡ cents) × (ps' ≡ ps ++ p ∷ []))
 took ps grade cents (Ok i) ps' ok added = (added.0, added.2)
 took ps grade cents (Err e) ps' ok added = absurd cc
-
-pub returns-in_err-map_err : goal.returns-in_err-map_err
-returns-in_err-map_err c =
-    let p = err_from_is_err_and c.from_residual-in_err-map_err.result c.from_residual-in_err-map_err.ensures.1 in
-    rw (p.1, p.2) (λ most. grind (arith, common_steps))
 
 pub returns : goal.returns
 returns c = λ most.

@@ -1,0 +1,4 @@
+pub mod Reading
+pub mod Sets
+pub mod Trips
+pub mod Writing

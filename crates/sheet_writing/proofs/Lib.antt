@@ -1,0 +1,3 @@
+pub mod Lengths
+pub mod Lines
+pub mod Writers
