@@ -1,5 +1,6 @@
 -- A call on a listing, made of what its code does. Assumes nothing.
 use Rattle.std.proofs.Common.{◌≡◌, ℕ, List, [], ◌∷◌, ◌++◌, sym, refl, ap, ◌∙◌, subst}
+use Rattle.sheet.specs.declared.sealed.Sheet.{Sheet}
 use Rattle.calls.specs.Calls.{Said, Step}
 use Rattle.calls.specs.Histories.{Moment, moment, Led, more}
 use Rattle.calls.specs.Law.{ListingLaw}
@@ -7,7 +8,7 @@ use Rattle.calls.specs.Stations.{station}
 use Rattle.calls.specs.declared.answers.Call.{Call}
 use Rattle.calls.proofs.Every.{every_listing}
 use Rattle.calls.proofs.Invariant.{Lawful}
-use Rattle.listing.specs.Listings.{sheet_of, pile_of, ranking_of, memory_of, station_of, SameStation, LeftBy}
+use Rattle.listing.specs.Listings.{sheet_of, pile_of, ranking_of, memory_of, station_of, SameStation, LeftBy, Opened}
 use Rattle.listing.specs.declared.listing.Listing.{Listing}
 use Rattle.structures.specs.declared.structure.Structure.{Ghosts as StructureGhosts}
 use Rattle.rankings.specs.declared.ranking.Ranking.{Ghosts as RankingGhosts}
@@ -36,3 +37,11 @@ module _ {S R K : Type 0} {sg : StructureGhosts S} {rg : RankingGhosts R K} wher
       let led' = subst (λ w. Led w (ms ++ m ∷ []) (memory_of l')) e led in
       let law = subst (λ w. ListingLaw w (ms ++ m ∷ []) (memory_of l')) e (every_listing (station_of l) laws led) in
       (xs, led', law)
+
+  -- a listing that was opened, and has its station still
+  pub opened_station : (s : Sheet) (pile : S) (ranking : R) (l l' : Listing S R K sg rg) → Opened s pile ranking l → SameStation l l' → station_of l' ≡ station s (sg.works pile) (rg.outranks ranking s)
+  opened_station s pile ranking l l' opened same =
+      sym (station_same l l' same)
+      ∙ ap (λ t. station t (sg.works (pile_of l)) (rg.outranks (ranking_of l) t)) opened.sheet_is
+      ∙ ap (λ p. station s (sg.works p) (rg.outranks (ranking_of l) s)) opened.pile_is
+      ∙ ap (λ r. station s (sg.works pile) (rg.outranks r s)) opened.ranking_is

@@ -1,19 +1,17 @@
 -- Calls carried out one after another. Assumes nothing.
-use Rattle.std.proofs.Common.{◌≡◌, List, [], ◌∷◌, ◌++◌, map, sym, refl, ap, ◌∙◌, subst, ap₂}
+use Rattle.std.proofs.Common.{◌≡◌, List, [], ◌∷◌, ◌++◌, map, refl, ap, ◌∙◌, sym, subst, ap₂}
 use Rattle.std.proofs.lemmas.List.{map_push}
-use Rattle.sheet.specs.declared.sealed.Sheet.{Sheet}
 use Rattle.calls.specs.Histories.{Moment, moment, Led, calls_in}
 use Rattle.calls.specs.Memories.{figures_at}
 use Rattle.calls.specs.Replays.{CarriedOut}
 use Rattle.calls.specs.Replies.{said_by}
-use Rattle.calls.specs.Stations.{Station, station}
+use Rattle.calls.specs.Stations.{Station}
 use Rattle.calls.specs.declared.answers.Call.{Call}
 use Rattle.calls.specs.declared.answers.Replied.{Replied}
 use Rattle.calls.proofs.Every.{every_listing}
 use Rattle.calls.proofs.Invariant.{Lawful}
-use Rattle.listing.specs.Listings.{pile_of, ranking_of, memory_of, station_of, SameStation, LeftBy, Opened, Called}
+use Rattle.listing.specs.Listings.{memory_of, station_of, LeftBy, Called}
 use Rattle.listing.specs.declared.listing.Listing.{Listing}
-use Rattle.listing.proofs.Calling.{station_same}
 use Rattle.structures.specs.declared.structure.Structure.{Ghosts as StructureGhosts}
 use Rattle.rankings.specs.declared.ranking.Ranking.{Ghosts as RankingGhosts}
 
@@ -55,11 +53,3 @@ module _ {S R K : Type 0} {sg : StructureGhosts S} {rg : RankingGhosts R K} wher
         figures_are = made.figures_are;
         law = every_listing w laws led;
       }
-
-  -- a listing that was opened, and has its station still
-  pub opened_station : (s : Sheet) (pile : S) (ranking : R) (l l' : Listing S R K sg rg) → Opened s pile ranking l → SameStation l l' → station_of l' ≡ station s (sg.works pile) (rg.outranks ranking s)
-  opened_station s pile ranking l l' opened same =
-      sym (station_same l l' same)
-      ∙ ap (λ t. station t (sg.works (pile_of l)) (rg.outranks (ranking_of l) t)) opened.sheet_is
-      ∙ ap (λ p. station s (sg.works p) (rg.outranks (ranking_of l) s)) opened.pile_is
-      ∙ ap (λ r. station s (sg.works pile) (rg.outranks r s)) opened.ranking_is

@@ -3,8 +3,8 @@ use Rattle.std.proofs.lemmas.List.{take_more, take_all}
 use Rattle.calls.specs.declared.answers.Call.TheVariants as call
 use Rattle.calls.specs.declared.answers.Replied.{Replied}
 use Rattle.calls.proofs.Sources.{lawful}
-use Rattle.listing.proofs.Calling.{same_itself, same_through}
-use Rattle.replaying.proofs.Replaying.{Made, none_made, one_made, all_made, opened_station}
+use Rattle.listing.proofs.Calling.{same_itself, same_through, opened_station}
+use Rattle.replaying.proofs.Replaying.{Made, none_made, one_made, all_made}
 use Rattle.replaying.proofs.carrying.replay.Goals as goal
 
 pub loop-call-init : goal.loop-call-init

@@ -1,0 +1,5 @@
+pub mod Outputs
+pub mod Refusals
+pub mod Rows
+pub mod Stations
+pub mod Steps
