@@ -8,7 +8,7 @@ on from the states handed out. With --write it writes the stdout. Exit status 0 
 import pathlib
 import sys
 
-from masses import mass, subsets
+from masses import mass, number, parent, subsets
 
 MASK = 2**64 - 1
 MOST_WAITING = 1024
@@ -33,19 +33,6 @@ class Draws:
 
     def part(self, count):
         return 1 + self.below(count + 2)
-
-
-def number(state):
-    return sum(2 ** (part - 1) for part in state)
-
-
-def parent(state):
-    """The state one step before, and whether that step was an add."""
-    top = max(state)
-    rest = state - {top}
-    if top == 1 or top - 1 in rest:
-        return rest, True
-    return rest | {top - 1}, False
 
 
 class Station:

@@ -10,7 +10,7 @@ import pathlib
 import re
 import sys
 
-from masses import TOTAL, figure, mass
+from masses import TOTAL, figure, mass, parent
 
 MOST = 4096
 LIMITED = [("worked.txt", 7), ("worked.txt", 6), ("worked.txt", 0), ("cabinet.txt", 10)]
@@ -93,15 +93,6 @@ def heaviest(grades, least):
 
     go(frozenset(), 0, 0, TOTAL)
     return [failed for _, _, failed in sorted(found)]
-
-
-def parent(state):
-    """The state one step before, and whether that step was an add."""
-    top = max(state)
-    rest = state - {top}
-    if top == 1 or top - 1 in rest:
-        return rest, True
-    return rest | {top - 1}, False
 
 
 def handed_out(grades, works, least):

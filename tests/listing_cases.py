@@ -7,13 +7,9 @@ one, but itself, works or is left by a move). Figures come from the masses of al
 import pathlib
 import sys
 
-from masses import TOTAL, mass, subsets
+from masses import TOTAL, mass, number, parent, subsets
 
 MASK = 2**64 - 1
-
-
-def number(state):
-    return sum(2 ** (part - 1) for part in state)
 
 
 def exact(grades):
@@ -26,15 +22,6 @@ def points(grades):
 
 def by_number(grades):
     return lambda s: number(s)
-
-
-def parent(state):
-    """The state one step before, and whether that step was an add."""
-    top = max(state)
-    rest = state - {top}
-    if top == 1 or top - 1 in rest:
-        return rest, True
-    return rest | {top - 1}, False
 
 
 class Station:

@@ -1,4 +1,4 @@
-"""Grades, sets of parts and their masses, written with no line of the program."""
+"""Grades, sets of parts, their numbers, masses and steps, written with no line of the program."""
 from itertools import combinations
 
 DECADE = [500000, 400000, 315000, 250000, 200000, 160000, 125000, 100000, 80000, 63000]
@@ -20,3 +20,16 @@ def mass(grades, failed):
         falls = left * figure(grade) // 1000000
         left = falls if part in failed else left - falls
     return left
+
+
+def number(state):
+    return sum(2 ** (part - 1) for part in state)
+
+
+def parent(state):
+    """The state one step before, and whether that step was an add."""
+    top = max(state)
+    rest = state - {top}
+    if top == 1 or top - 1 in rest:
+        return rest, True
+    return rest | {top - 1}, False

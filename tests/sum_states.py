@@ -4,29 +4,10 @@
 It also compares the rounded sums with unrounded products: rounding may raise the reliability, by less than 2^n units of
 10^-18, and never lowers it. Exit status 0 when all agrees."""
 from fractions import Fraction
-from itertools import combinations
 import pathlib
 import sys
 
-DECADE = [500000, 400000, 315000, 250000, 200000, 160000, 125000, 100000, 80000, 63000]
-TOTAL = 10**18
-
-
-def figure(grade):
-    return DECADE[grade % 10] // 10 ** (grade // 10)
-
-
-def subsets(parts):
-    for size in range(len(parts) + 1):
-        yield from (frozenset(c) for c in combinations(parts, size))
-
-
-def mass(grades, failed):
-    left = TOTAL
-    for part, grade in enumerate(grades, start=1):
-        falls = left * figure(grade) // 1000000
-        left = falls if part in failed else left - falls
-    return left
+from masses import TOTAL, figure, mass, subsets
 
 
 def exact(grades, failed):
