@@ -5,10 +5,8 @@ The stations are made by the program's rule, which stands here once more. States
 all states of a sheet are sorted, and those are left out that no listing may hand out (a state is handed out where each state on
 its way from the empty one, but itself, works or is left by a move). Whether a listing ends full follows from how many steps lead
 on from the states handed out. With --write it writes the stdout. Exit status 0 when all agrees."""
-import pathlib
-import sys
-
 from masses import mass, number, parent, subsets
+from stored import compare
 
 MASK = 2**64 - 1
 MOST_WAITING = 1024
@@ -181,10 +179,4 @@ for bottom, word in [(path_list, "path list"), (quorum, "quorum"), (network, "ne
         for ranking, figures in kind(stations, bottom, layer).items():
             lines.append(row(f"{word},{words}", ranking, figures))
 
-expected = "\n".join(lines) + "\n"
-stored = pathlib.Path(__file__).parent.parent / "crates" / "comparisons" / "stdout"
-if sys.argv[1:] == ["--write"]:
-    stored.write_text(expected)
-if stored.read_text() != expected:
-    sys.exit("crates/comparisons/stdout is not what the independent calculation gives")
-print("comparisons: stored output agrees with the independent calculation")
+compare("comparisons", lines)

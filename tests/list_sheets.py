@@ -11,6 +11,7 @@ import re
 import sys
 
 from masses import TOTAL, figure, mass, parent
+from stored import compare
 
 MOST = 4096
 LIMITED = [("worked.txt", 7), ("worked.txt", 6), ("worked.txt", 0), ("cabinet.txt", 10)]
@@ -154,13 +155,7 @@ def main():
         return "crates/list_sheets/data holds other sheets than sheets/"
     cases = [(name, MOST) for name in sorted(sheets)] + LIMITED
     lines = [line for name, most in cases for line in [f"{name},{most}"] + listing(sheets[name], most)]
-    due = "\n".join(lines) + "\n"
-    stdout = crate / "stdout"
-    if sys.argv[1:] == ["--write"]:
-        stdout.write_text(due)
-    if stdout.read_text() != due:
-        return "crates/list_sheets/stdout is not what the independent calculation gives"
-    print("list_sheets: stored output agrees with the independent calculation")
+    compare("list_sheets", lines)
 
 
 if __name__ == "__main__":

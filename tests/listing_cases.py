@@ -4,10 +4,8 @@
 States are sets here. A listing is not run by its steps: the states it hands out are found by sorting all states of the
 sheet, and leaving out those that no listing may hand out (a state is handed out where each state on its way from the empty
 one, but itself, works or is left by a move). Figures come from the masses of all states. Exit status 0 when all agrees."""
-import pathlib
-import sys
-
 from masses import TOTAL, mass, number, parent, subsets
+from stored import compare
 
 MASK = 2**64 - 1
 
@@ -208,10 +206,4 @@ for call in [
     c.figures()
 lines += ["replayed"] + c.lines + [station.row("opened again")]
 
-expected = "\n".join(lines) + "\n"
-stored = pathlib.Path(__file__).parent.parent / "crates" / "listing_cases" / "stdout"
-if sys.argv[1:] == ["--write"]:
-    stored.write_text(expected)
-if stored.read_text() != expected:
-    sys.exit("crates/listing_cases/stdout is not what the independent calculation gives")
-print("listing_cases: stored output agrees with the independent calculation")
+compare("listing_cases", lines)

@@ -4,10 +4,9 @@
 It also compares the rounded sums with unrounded products: rounding may raise the reliability, by less than 2^n units of
 10^-18, and never lowers it. Exit status 0 when all agrees."""
 from fractions import Fraction
-import pathlib
-import sys
 
 from masses import TOTAL, figure, mass, subsets
+from stored import compare
 
 
 def exact(grades, failed):
@@ -44,10 +43,4 @@ CABINET = (
     False,
 )
 
-expected = "\n".join(report(*SMALL) + report(*CABINET)) + "\n"
-stored = pathlib.Path(__file__).parent.parent / "crates" / "sum_states" / "stdout"
-if sys.argv[1:] == ["--write"]:
-    stored.write_text(expected)
-if stored.read_text() != expected:
-    sys.exit("crates/sum_states/stdout is not what the independent calculation gives")
-print("sum_states: stored output agrees with the independent calculation")
+compare("sum_states", report(*SMALL) + report(*CABINET))
