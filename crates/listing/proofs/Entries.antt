@@ -1,15 +1,14 @@
 -- The entries of a queue one by one, and what stays true as one is put in or taken away. Assumes nothing.
-use Rattle.std.proofs.Common.{◌≡◌, ℕ, ◌+◌, ◌-◌, ◌^◌, ◌<◌, ◌≤◌, Bool, true, false, not, ltb, ◌⊎◌, List, [], ◌∷◌, ◌++◌, map, length, get_or, take, drop, sym, refl, ap, ◌∙◌, subst, ap₂, inl, inr, ⊎_elim, arith, take-append-drop, ltb-true, lt-ltb, mod-eq_of_lt, MatchOption}
+use Rattle.std.proofs.Common.{◌≡◌, ℕ, zero, suc, ◌+◌, ◌-◌, ◌^◌, ◌<◌, ◌≤◌, Bool, true, false, not, ltb, ◌⊎◌, List, [], ◌∷◌, ◌++◌, map, length, get_or, take, drop, sym, refl, ap, ◌∙◌, subst, ap₂, inl, inr, ⊎_elim, arith, take-append-drop, ltb-true, lt-ltb, mod-eq_of_lt, MatchOption}
 use borrow.Author.Tests.{clash}
 use Rattle.std.proofs.Math.Bool.{Bool-set}
 use Rattle.std.proofs.Math.Logic.{∥∥₁_elim, ∥∥₁_map}
 use Rattle.std.specs.List.{insert, slice_get}
-use Rattle.std.specs.List.Sorted.{IsPartitionedBy, IsPartitionPoint}
+use Rattle.std.specs.List.Sorted.{IsPartitionPoint}
 use Rattle.std.proofs.lemmas.List.{get_or-map, length-map, map-append, take-map, drop-map, take_more, take_all, take_at, nil_from_length, same_from_push, length_push}
 use Rattle.std.proofs.lemmas.Bool.{and_parts, and_from, cases_Bool, cases_lt}
 use Rattle.std.proofs.lemmas.Bool.Decides.{eqb_tells}
 use Rattle.std.proofs.lemmas.Option.{slice_get_cases}
-use Rattle.std.specs.declared.cmp.Ordering.{Ordering}
 use Rattle.sheet.specs.Parts.{count_of}
 use Rattle.sheet.specs.declared.sealed.Sheet.{Sheet}
 use Rattle.states.specs.Lists.{In, Same}
@@ -17,8 +16,7 @@ use Rattle.states.specs.Masses.{mass}
 use Rattle.states.specs.Steps.{low}
 use Rattle.states.specs.Sums.{sum_of}
 use Rattle.states.proofs.Lists.{in_append_right, in_append_cases, sum_of_append}
-use Rattle.rankings.specs.Orders.{ahead, ahead_by_keys, RankedByKeys, StrictOrder}
-use Rattle.rankings.proofs.Orders.{keys_say}
+use Rattle.rankings.specs.Orders.{StrictOrder}
 use Rattle.listing.specs.Waiters.{states_of, masses_of, all_below, Keyed, InOrder, IsForemost}
 use Rattle.listing.specs.declared.waiting.Waiting.{Waiting}
 use Rattle.listing.proofs.Sorting.{in_front, in_at, all_take, all_drop, pairwise_take, pairwise_at, pairwise_last, pairwise_insert, same_inserted}
@@ -73,12 +71,9 @@ module _ (n : ℕ) (before : ℕ → ℕ → Bool) (order : StrictOrder n before
       pairwise_insert (λ p q. before p q ≡ false) (take i zs) (drop i zs) x (subst (InOrder before) (sym (take-append-drop i zs)) sorted)
       (all_take (λ y. before y x ≡ false) zs i (λ k h w. behind (get_or zs k 0) (at_on k w) (over k h w))) (all_drop (λ y. before x y ≡ false) zs i under)
 
--- where an entry is put, by the keys
-module _ {K : Type 0} (n : ℕ) (o : ℕ → ℕ → Bool) (keyed : ℕ → K) (compared : K → K → Ordering) (ranks : RankedByKeys n o keyed compared) (order : StrictOrder n (ahead o)) (ws : List (Waiting K))
-    (on : all_below (2 ^ n) (states_of ws) ≡ true) (keys : ∥ Keyed keyed ws ∥₁) (sorted : InOrder (ahead o) (states_of ws)) (x : ℕ) (key : K) (x_on : x < 2 ^ n) (x_key : key ≡ keyed x) where
-  abbrev tested : Waiting K → Bool
-  tested e = ahead_by_keys compared x key e.state.number e.key
-
+-- where an entry of the state x is put
+module _ {K : Type 0} (n : ℕ) (before : ℕ → ℕ → Bool) (keyed : ℕ → K) (order : StrictOrder n before) (ws : List (Waiting K))
+    (on : all_below (2 ^ n) (states_of ws) ≡ true) (keys : ∥ Keyed keyed ws ∥₁) (sorted : InOrder before (states_of ws)) (x : ℕ) (x_on : x < 2 ^ n) where
   states_many : length (states_of ws) ≡ length ws
   states_many = length-map ws (λ e. e.state.number)
 
@@ -88,22 +83,29 @@ module _ {K : Type 0} (n : ℕ) (o : ℕ → ℕ → Bool) (keyed : ℕ → K) (
   key_at : (i : ℕ) (d : Waiting K) → i < length ws → Keyed keyed ws → (get_or ws i d).key ≡ keyed ((get_or ws i d).state.number)
   key_at i d h is = sym (get_or-map (λ e. e.key) ws i d d.key h) ∙ ap (λ ks. get_or ks i d.key) is ∙ get_or-map (λ e. keyed e.state.number) ws i d d.key h
 
-  says : (i : ℕ) (d : Waiting K) → i < length ws → tested (get_or ws i d) ≡ ahead o x (get_or (states_of ws) i 0)
-  says i d h = ∥∥₁_elim keys (Bool-set _ _) (λ is.
-      let e = get_or ws i d in
-      let here : e.state.number < 2 ^ n = subst (λ v. v < 2 ^ n) (state_at i d h) (at_on n (ahead o) order (states_of ws) on sorted x x_on i (omega (arith, states_many))) in
-      ap₂ (λ a b. ahead_by_keys compared x a e.state.number b) x_key (key_at i d h is) ∙ keys_say n o keyed compared ranks x e.state.number x_on here ∙ ap (ahead o x) (sym (state_at i d h)))
+  -- what the entry at a place is said to be, by its key, its state is
+  pub says : (i : ℕ) (e : Waiting K) (said : Bool) → i < length ws → e ≡ get_or ws i e
+      → (e.state.number < 2 ^ n → e.key ≡ keyed e.state.number → said ≡ before x e.state.number) → before x (get_or (states_of ws) i 0) ≡ said
+  says i e said h read tells = ∥∥₁_elim keys (Bool-set _ _) (λ is.
+      let state : get_or (states_of ws) i 0 ≡ e.state.number = state_at i e h ∙ ap (λ v. v.state.number) (sym read) in
+      let here : e.state.number < 2 ^ n = subst (λ v. v < 2 ^ n) state (at_on n before order (states_of ws) on sorted x x_on i (omega (arith, states_many))) in
+      let key : e.key ≡ keyed e.state.number = ap (λ v. v.key) read ∙ key_at i e h is ∙ ap (λ v. keyed v.state.number) (sym read) in
+      ap (before x) state ∙ sym (tells here key))
 
-  pub partitioned : IsPartitionedBy tested ws
-  partitioned i j d le h t =
-      says i d (omega arith) ∙ stays_ahead n (ahead o) order (states_of ws) on sorted x x_on i j le (omega (arith, states_many)) (sym (says j d h) ∙ t)
-
-  pub place_found : (r : ℕ) → r ≤ length ws → IsPartitionPoint (λ e. tested e ≡ true) (λ e. tested e ≡ false) ws r
-      → IsPartitionPoint (λ e. ahead o x e.state.number ≡ true) (λ e. ahead o x e.state.number ≡ false) ws r
-  place_found r fits point = (
-    λ k d low high. ap (ahead o x) (sym (state_at k d (omega arith))) ∙ sym (says k d (omega arith)) ∙ point.0 k d low high,
-    λ k d low high. ap (ahead o x) (sym (state_at k d high)) ∙ sym (says k d high) ∙ point.1 k d low high,
+  -- its place is where it is ahead of the one before, and not of the one there
+  pub place_found : (r : ℕ) → r ≤ length ws → ((j : ℕ) → suc j ≡ r → before x (get_or (states_of ws) j 0) ≡ true) → (r < length ws → before x (get_or (states_of ws) r 0) ≡ false)
+      → IsPartitionPoint (λ e. before x e.state.number ≡ true) (λ e. before x e.state.number ≡ false) ws r
+  place_found r fits over under = (
+    λ k d low high. ap (before x) (sym (state_at k d (omega arith))) ∙ ahead_of k r (omega arith) over fits,
+    λ k d low high. ap (before x) (sym (state_at k d high)) ∙ ⊎_elim
+        (λ t. absurd (clash (sym (under (omega arith)) ∙ stays_ahead n before order (states_of ws) on sorted x x_on r k low (omega (arith, states_many)) t))) (λ f. f)
+        (cases_Bool (before x (get_or (states_of ws) k 0))),
   )
+    where
+      ahead_of : (k r : ℕ) → k < r → ((j : ℕ) → suc j ≡ r → before x (get_or (states_of ws) j 0) ≡ true) → r ≤ length ws → before x (get_or (states_of ws) k 0) ≡ true
+      ahead_of k zero less over fits = absurd (omega arith)
+      ahead_of k (suc j) less over fits =
+          stays_ahead n before order (states_of ws) on sorted x x_on k j (omega arith) (omega (arith, states_many)) (over j refl)
 
 -- the key that is worked out for a state of the sheet, weighed on it, is the state's
 pub own_key : {K : Type 0} (keyed : Sheet → ℕ → K) (s t : Sheet) (x y : ℕ) (key : K) → x < 2 ^ count_of s → t ≡ s → y ≡ x → key ≡ keyed t (low (count_of t) y) → key ≡ keyed s x

@@ -1,5 +1,4 @@
 ghost use Rattle.std.specs.Prelude.{nat_lt};
-ghost use Rattle.std.specs.Ordering.{nat_cmp};
 ghost use Rattle.std.proofs.Common.{inl, inr, arith, le-ltb, rules};
 ghost use Rattle.states.proofs.Trees.{steps_grow};
 
@@ -18,10 +17,6 @@ impl Ranking for ByNumber {
     ghost outranks = { λ _ _ x y. nat_lt x y };
 
     ghost keyed = { λ _ _ x. x };
-
-    ghost compared = { λ _ _ first second. nat_cmp first second };
-
-    ghost by_keys = { Prim.search rules };
 
     ghost one_way = { Prim.search rules };
 

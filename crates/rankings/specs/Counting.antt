@@ -1,5 +1,5 @@
 -- Points: one part more, what they read, and the ranking's two laws. Assumes nothing.
-use Rattle.std.specs.Prelude.{◌≡◌, ℕ, zero, suc, ◌+◌, ◌-◌, ◌/◌, ◌%◌, ◌^◌, ◌<◌, ◌≤◌, false, cond, List, [], ◌∷◌, length, slice_index, slice_index_or, refl}
+use Rattle.std.specs.Prelude.{◌≡◌, ℕ, zero, suc, ◌+◌, ◌-◌, ◌/◌, ◌%◌, ◌^◌, ◌<◌, ◌≤◌, false, cond, List, [], ◌∷◌, length, ◌==◌, slice_index, slice_index_or, refl}
 use Rattle.std.proofs.Common.{sym, ◌∙◌, le-ltb, add-zero}
 use Rattle.std.proofs.lemmas.Bool.{ne_eqb}
 use Rattle.std.proofs.Math.Path.{ap, ap₂}
@@ -18,6 +18,13 @@ use Rattle.rankings.specs.Points.{points_upto, points, fewer}
 pub points_none : (gs : List ℕ) (x : ℕ) → 0 ≡ points_upto gs 0 x
 unfolding points_upto
 points_none gs x = refl
+
+-- what part l + 1 adds
+pub points_more : (gs : List ℕ) (l x g s r : ℕ) → g ≡ slice_index gs l → s ≡ points_upto gs l x → r ≡ s + cond (x / 2 ^ l % 2 == 1) g 0 → r ≡ points_upto gs (l + 1) x
+unfolding points_upto bit
+points_more gs l x g s r eg es er =
+    let e : l + 1 ≡ suc l = omega arith in
+    er ∙ ap₂ (λ t n. t + cond (bit l x) n 0) es eg ∙ sym (ap (λ k. points_upto gs k x) e)
 
 -- a part that has failed counts its grade, a sound one nothing
 pub part_failed : (s : Sheet) (l x : ℕ) (p : Part) → p ≡ slice_index_or (parts_of s) l p → l < count_of s → x / 2 ^ l % 2 ≡ 1 → points_upto (grades_of s) (l + 1) x ≡ points_upto (grades_of s) l x + p.grade.number

@@ -1,7 +1,7 @@
 ghost use Rattle.std.specs.Prelude.{◌≡◌, ◌^◌, ◌<◌};
 ghost use Rattle.sheet.specs.Parts.{count_of};
 ghost use Rattle.states.specs.Steps.{low};
-ghost use Rattle.rankings.specs.Orders.{ahead, ahead_by_keys, StrictOrder};
+ghost use Rattle.rankings.specs.Orders.{ahead, StrictOrder};
 
 use crate::ranking::Ranking;
 use sheet::Sheet;
@@ -15,8 +15,7 @@ pub fn is_ahead_by_keys<R: Ranking>(
     first: (State, R::Key),
     second: (State, R::Key),
 ) -> bool
-    ensures value { result ≡ ahead_by_keys (R.Ranking.compared ranking.now sheet.now) first.0.number first.1 second.0.number second.1 }
-    ensures ahead { first.0.number < 2 ^ count_of sheet.now → second.0.number < 2 ^ count_of sheet.now → first.1 ≡ R.Ranking.keyed ranking.now sheet.now first.0.number → second.1 ≡ R.Ranking.keyed ranking.now sheet.now second.0.number → result ≡ ahead (R.Ranking.outranks ranking.now sheet.now) first.0.number second.0.number }
+    ensures { first.0.number < 2 ^ count_of sheet.now → second.0.number < 2 ^ count_of sheet.now → first.1 ≡ R.Ranking.keyed ranking.now sheet.now first.0.number → second.1 ≡ R.Ranking.keyed ranking.now sheet.now second.0.number → result ≡ ahead (R.Ranking.outranks ranking.now sheet.now) first.0.number second.0.number }
 {
     ranking
         .compare(sheet, first.1, second.1)

@@ -1,5 +1,4 @@
 ghost use Rattle.std.specs.Prelude.{◌≡◌, ◌+◌, ◌≤◌, if◌then◌else◌};
-ghost use Rattle.std.specs.Ordering.{nat_cmp};
 ghost use Rattle.sheet.specs.Parts.{grades_of, count_of};
 ghost use Rattle.states.specs.Steps.{low};
 ghost use Rattle.rankings.specs.Points.{points, fewer};
@@ -37,10 +36,6 @@ impl Ranking for Points {
     ghost outranks = { λ _ s. fewer (grades_of s) };
 
     ghost keyed = { λ _ s. points (grades_of s) };
-
-    ghost compared = { λ _ _ first second. nat_cmp first second };
-
-    ghost by_keys = { Prim.search rules };
 
     ghost one_way = { Prim.search rules };
 

@@ -1,4 +1,3 @@
-ghost use Rattle.std.specs.Ordering.{nat_cmp};
 ghost use Rattle.sheet.specs.Parts.{figures_of};
 ghost use Rattle.states.specs.Masses.{mass};
 ghost use Rattle.rankings.specs.Exact.{heavier};
@@ -20,10 +19,6 @@ impl Ranking for Exact {
     ghost outranks = { λ _ s. heavier (figures_of s) };
 
     ghost keyed = { λ _ s. mass (figures_of s) };
-
-    ghost compared = { λ _ _ first second. nat_cmp second first };
-
-    ghost by_keys = { Prim.search rules };
 
     ghost one_way = { Prim.search rules };
 

@@ -1,6 +1,5 @@
 ghost use Rattle.std.specs.Prelude.{◌≡◌, ℕ, Bool};
 ghost use Rattle.sheet.specs.Parts.{count_of};
-ghost use Rattle.std.specs.declared.cmp.Ordering.{Ordering};
 ghost use Rattle.sheet.specs.declared.sealed.Sheet.{Sheet};
 ghost use Rattle.states.specs.Steps.{low};
 ghost use Rattle.rankings.specs.Orders.{OneWay, Through, AddFollows, MoveFollows, ranked, RankedByKeys};
@@ -17,22 +16,19 @@ pub trait Ranking {
     type Key: Copy;
 
     // Its meaning: on a sheet, whether the first state outranks the second. For each sheet it is a total order of the sheet's
-    // states with ties, by the laws `one_way` and `through` below.
+    // states with ties, by the first two laws below.
     ghost outranks: { Self → Sheet → ℕ → ℕ → Bool };
 
     // The key of a state on a sheet.
     ghost keyed: { Self → Sheet → ℕ → Self.Key };
 
-    // What comparing two keys on a sheet answers.
-    ghost compared: { Self → Sheet → Self.Key → Self.Key → Ordering };
-
     // The key of a weighed state, as its sheet reads it.
     fn key(&self, weighed: Weighed<'_>) -> Self::Key
         ensures { result ≡ keyed self.now weighed.entry.sheet.now (low (count_of weighed.entry.sheet.now) weighed.entry.state.number) };
 
-    // Compares two states of the sheet by their keys: as they rank, by the law `by_keys`.
+    // Compares two states of the sheet by their keys. Nothing is asked of it where a key is no state's.
     fn compare(&self, sheet: &Sheet, first: Self::Key, second: Self::Key) -> Ordering
-        ensures { result ≡ compared self.now sheet.now first second };
+        ensures { RankedByKeys (count_of sheet.now) (outranks self.now sheet.now) (keyed self.now sheet.now) first second result };
 
     // How the first state ranks against the second, both as the sheet reads them.
     fn rank(&self, sheet: &Sheet, first: State, second: State) -> Ordering
@@ -42,8 +38,6 @@ pub trait Ranking {
         let other = self.key(Weighed::new(sheet, second));
         self.compare(sheet, one, other)
     }
-
-    ghost by_keys: { (r : Self) (s : Sheet) → RankedByKeys (count_of s) (outranks r s) (keyed r s) (compared r s) };
 
     ghost one_way: { (r : Self) (s : Sheet) → OneWay (count_of s) (outranks r s) };
 

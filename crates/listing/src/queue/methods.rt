@@ -4,7 +4,7 @@ ghost use Rattle.std.specs.List.Sorted.{IsPartitionPoint};
 ghost use Rattle.sheet.specs.Parts.{count_of};
 ghost use Rattle.states.specs.Answers.{numbers};
 ghost use Rattle.states.specs.Lists.{Same};
-ghost use Rattle.rankings.specs.Orders.{ahead, ahead_by_keys};
+ghost use Rattle.rankings.specs.Orders.{ahead};
 ghost use Rattle.listing.specs.Queues.{waiting_in, ForemostOf, SameBasis, Removed, Replaced};
 
 use super::Queue;
@@ -64,9 +64,9 @@ impl<'a, R: Ranking> Queue<'a, R> {
         last_of(&self.entries)
     }
 
-    // Whether the first entry is ahead of the second, by their keys.
+    // Whether the first entry is ahead of the second, by their keys, which are those of their states.
     fn is_ahead(&self, first: Waiting<R::Key>, second: Waiting<R::Key>) -> bool
-        ensures { result ≡ ahead_by_keys (R.Ranking.compared self.now.ranking self.now.sheet.now) first.state.number first.key second.state.number second.key }
+        ensures { first.state.number < 2 ^ count_of self.now.sheet.now → second.state.number < 2 ^ count_of self.now.sheet.now → first.key ≡ R.Ranking.keyed self.now.ranking self.now.sheet.now first.state.number → second.key ≡ R.Ranking.keyed self.now.ranking self.now.sheet.now second.state.number → result ≡ ahead (R.Ranking.outranks self.now.ranking self.now.sheet.now) first.state.number second.state.number }
     {
         is_ahead_by_keys(
             &self.ranking,
@@ -83,8 +83,18 @@ impl<'a, R: Ranking> Queue<'a, R> {
         ensures within { result ≤ vec_len self.now.entries }
         ensures place { IsPartitionPoint (λ e. ahead (R.Ranking.outranks self.now.ranking self.now.sheet.now) newcomer.state.number e.state.number ≡ true) (λ e. ahead (R.Ranking.outranks self.now.ranking self.now.sheet.now) newcomer.state.number e.state.number ≡ false) self.now.entries.items result }
     {
-        self.entries
-            .partition_point(|entry| self.is_ahead(newcomer, *entry))
+        // No `partition_point`: it would ask a ranking what it answers for keys that are no state's, and compares once more.
+        let mut low = 0;
+        let mut high = self.entries.len();
+        while low < high {
+            let middle = low + (high - low) / 2;
+            if self.is_ahead(newcomer, self.entries[middle]) {
+                low = middle + 1;
+            } else {
+                high = middle;
+            }
+        }
+        low
     }
 
     // Makes a state wait, with its mass and its key worked out once. That a state is of the sheet is asked, and is no type: each

@@ -1,4 +1,6 @@
-use Rattle.std.proofs.Common.{[], sym, refl, subst, arith}
+use Rattle.std.proofs.Common.{◌≡◌, true, [], sym, refl, subst, arith}
+use Rattle.states.specs.Lists.{Pairwise}
+use Rattle.rankings.specs.Orders.{ahead}
 use Rattle.calls.specs.Histories.{Led, none}
 use Rattle.calls.specs.Stations.{station}
 use Rattle.listing.specs.Queues.{waiting_in}
@@ -24,4 +26,5 @@ returns g c =
       pile_is = refl;
       ranking_is = basis.ranking;
       left = subst (λ zs. Led (station q'.sheet.now (g.S.Structure.works c.args.pile) (g.R.Ranking.outranks q'.ranking q'.sheet.now)) [] (record { waiting = zs; up = 0; down = 0; handed = 0 })) (sym alone) none;
+      in_line = subst (Pairwise (λ x y. ahead (g.R.Ranking.outranks q'.ranking q'.sheet.now) y x ≡ true)) (sym alone) (tt, tt);
     }
