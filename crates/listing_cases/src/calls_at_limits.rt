@@ -2,6 +2,7 @@ use crate::by_number::ByNumber;
 use crate::many::list_all;
 use crate::outcome::{show_figures, show_next, show_reply, show_run};
 use crate::sheets::{sheet_of, standby};
+use anyhow::Context;
 use calls::Call;
 use listing::Listing;
 use rankings::Exact;
@@ -12,7 +13,9 @@ use structures::{PathList, Quorum};
 pub(crate) fn runs(rt: &HostRuntime) -> anyhow::Result<()> {
     println!(rt; "runs")?;
     let sheet = sheet_of(rt.alloc(), &[7, 7, 17])?;
-    let mut listing = Listing::open(rt.alloc(), &sheet, Quorum::new(2, 0b111), Exact)?;
+    let mut listing = Listing::open(rt.alloc(), &sheet, Quorum::new(2, 0b111), Exact)
+        .ok()
+        .context("no memory")?;
     show_run(rt, listing.run(0, 5))?;
     show_run(rt, listing.run(1_000_001, 5))?;
     show_run(rt, listing.run(1_000_000, 0))?;
@@ -27,8 +30,12 @@ pub(crate) fn runs(rt: &HostRuntime) -> anyhow::Result<()> {
 pub(crate) fn empty_path_list(rt: &HostRuntime) -> anyhow::Result<()> {
     println!(rt; "empty path list")?;
     let sheet = sheet_of(rt.alloc(), &[7, 7, 17])?;
-    let none = PathList::new(rt.alloc(), &[])?;
-    let mut listing = Listing::open(rt.alloc(), &sheet, none, Exact)?;
+    let none = PathList::new(rt.alloc(), &[])
+        .ok()
+        .context("the paths were refused")?;
+    let mut listing = Listing::open(rt.alloc(), &sheet, none, Exact)
+        .ok()
+        .context("no memory")?;
     show_next(rt, listing.next())?;
     show_figures(rt, listing.figures())?;
     show_next(rt, listing.next())
@@ -37,7 +44,9 @@ pub(crate) fn empty_path_list(rt: &HostRuntime) -> anyhow::Result<()> {
 pub(crate) fn no_parts(rt: &HostRuntime) -> anyhow::Result<()> {
     println!(rt; "no parts")?;
     let sheet = sheet_of(rt.alloc(), &[])?;
-    let mut listing = Listing::open(rt.alloc(), &sheet, Quorum::new(0, 0), Exact)?;
+    let mut listing = Listing::open(rt.alloc(), &sheet, Quorum::new(0, 0), Exact)
+        .ok()
+        .context("no memory")?;
     show_next(rt, listing.next())?;
     show_next(rt, listing.next())?;
     show_figures(rt, listing.figures())
@@ -47,7 +56,9 @@ pub(crate) fn no_parts(rt: &HostRuntime) -> anyhow::Result<()> {
 pub(crate) fn full_listing(rt: &HostRuntime) -> anyhow::Result<()> {
     println!(rt; "full")?;
     let sheet = sheet_of(rt.alloc(), &[10; 20])?;
-    let mut listing = Listing::open(rt.alloc(), &sheet, Quorum::new(10, 0xf_ffff), Exact)?;
+    let mut listing = Listing::open(rt.alloc(), &sheet, Quorum::new(10, 0xf_ffff), Exact)
+        .ok()
+        .context("no memory")?;
     show_run(rt, listing.run(1_000_000, 1_000_000))?;
     let before = listing.figures();
     show_next(rt, listing.next())?;
@@ -63,7 +74,9 @@ pub(crate) fn stopped(rt: &HostRuntime) -> anyhow::Result<()> {
     println!(rt; "stopped")?;
     let sheet = sheet_of(rt.alloc(), &[2, 8, 8, 30])?;
     let standby = standby()?;
-    let mut listing = Listing::open(rt.alloc(), &sheet, standby, ByNumber)?;
+    let mut listing = Listing::open(rt.alloc(), &sheet, standby, ByNumber)
+        .ok()
+        .context("no memory")?;
     show_run(rt, listing.run(1_000_000, 3))?;
     let stopped = listing.stop();
     show_figures(rt, stopped.figures)?;
@@ -91,7 +104,9 @@ pub(crate) fn replayed(rt: &HostRuntime) -> anyhow::Result<()> {
         Call::Next,
         Call::Figures,
     ];
-    let answers = replay(rt.alloc(), &sheet, standby, ByNumber, &calls)?;
+    let answers = replay(rt.alloc(), &sheet, standby, ByNumber, &calls)
+        .ok()
+        .context("no memory")?;
     for answer in &answers.replies {
         show_reply(rt, answer.reply)?;
         show_figures(rt, answer.figures)?;

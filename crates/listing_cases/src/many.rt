@@ -1,5 +1,6 @@
 use crate::by_number::ByNumber;
 use crate::sheets::{part, sheet_of, standby};
+use anyhow::Context;
 use calls::Figures;
 use listing::Listing;
 use networks::{Link, Network};
@@ -29,7 +30,9 @@ pub(crate) fn list_all<S: Structure + Drop, R: Ranking + Drop>(
     ranking: R,
 ) -> anyhow::Result<S> {
     let sums = sum_states(sheet, &pile)?;
-    let mut listing = Listing::open(rt.alloc(), sheet, pile, ranking)?;
+    let mut listing = Listing::open(rt.alloc(), sheet, pile, ranking)
+        .ok()
+        .context("no memory")?;
     let mut order = 0u64;
     for _ in 0..4097 {
         let Ok(Some(handed)) = listing.next() else {
@@ -64,7 +67,9 @@ fn list_by_both<S: Structure + Drop>(
 // A feed over a path list.
 fn fed(rt: &HostRuntime, name: &str, grades: &[u8], paths: &[u64], feed: u8) -> anyhow::Result<()> {
     let sheet = sheet_of(rt.alloc(), grades)?;
-    let list = PathList::new(rt.alloc(), paths)?;
+    let list = PathList::new(rt.alloc(), paths)
+        .ok()
+        .context("the paths were refused")?;
     list_by_both(rt, name, &sheet, Layer::new(part(feed)?, Feed, list))
 }
 
@@ -126,9 +131,13 @@ pub(crate) fn networked(rt: &HostRuntime) -> anyhow::Result<()> {
         Link::new(3, 0, 4),
         Link::new(1, 3, 5),
     ];
-    let network = Network::new(rt.alloc(), 0, 2, &links)?;
+    let network = Network::new(rt.alloc(), 0, 2, &links)
+        .ok()
+        .context("the network was refused")?;
     list_all(rt, "square network", &sheet, network, Exact)?;
-    let network = Network::new(rt.alloc(), 1, 1, &links)?;
+    let network = Network::new(rt.alloc(), 1, 1, &links)
+        .ok()
+        .context("the network was refused")?;
     list_all(rt, "equal terminals", &sheet, network, Points)?;
     Ok(())
 }

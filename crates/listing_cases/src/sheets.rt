@@ -1,4 +1,5 @@
 use crate::standby::Standby;
+use anyhow::Context;
 use sheet::{Draft, PartNumber, Sheet};
 use std::alloc::Global;
 
@@ -6,7 +7,7 @@ use std::alloc::Global;
 pub(crate) fn sheet_of(heap: Global, grades: &[u8]) -> anyhow::Result<Sheet> {
     let mut draft = Draft::new(heap);
     for grade in grades {
-        draft.add(*grade, 100)?;
+        draft.add(*grade, 100).ok().context("a part was refused")?;
     }
     Ok(draft.seal())
 }

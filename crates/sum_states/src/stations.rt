@@ -1,3 +1,4 @@
+use anyhow::Context;
 use sheet::{Draft, PartNumber, Sheet};
 use std::alloc::Global;
 use structures::{Feed, Layer, PathList};
@@ -9,10 +10,12 @@ type Station = (Sheet, Layer<Feed, PathList>);
 fn station(heap: Global, parts: &[(u8, u32)], paths: &[u64], feed: u8) -> anyhow::Result<Station> {
     let mut draft = Draft::new(heap);
     for &(grade, cents) in parts {
-        draft.add(grade, cents)?;
+        draft.add(grade, cents).ok().context("a part was refused")?;
     }
     let feed = PartNumber::try_from(feed)?;
-    let list = PathList::new(heap, paths)?;
+    let list = PathList::new(heap, paths)
+        .ok()
+        .context("the paths were refused")?;
     Ok((draft.seal(), Layer::new(feed, Feed, list)))
 }
 
