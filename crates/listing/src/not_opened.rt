@@ -4,7 +4,7 @@ use std::error::Error;
 use std::fmt;
 
 // No memory to open a listing: its pile and its ranking come back.
-#[derive(Clone, Copy, Drop)]
+#[derive(Clone, Copy, PartialEq, Eq, Drop)]
 pub struct NotOpened<S, R> {
     pub pile: S,
     pub ranking: R,

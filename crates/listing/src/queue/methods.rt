@@ -83,7 +83,7 @@ impl<'a, R: Ranking> Queue<'a, R> {
         ensures within { result ≤ vec_len self.now.entries }
         ensures place { IsPartitionPoint (λ e. ahead (R.Ranking.outranks self.now.ranking self.now.sheet.now) newcomer.state.number e.state.number ≡ true) (λ e. ahead (R.Ranking.outranks self.now.ranking self.now.sheet.now) newcomer.state.number e.state.number ≡ false) self.now.entries.items result }
     {
-        // No `partition_point`: it would ask a ranking what it answers for keys that are no state's, and compares once more.
+        // No `partition_point`: it would ask a ranking what it answers for keys that are no state's, and compares once or twice more.
         let mut low = 0;
         let mut high = self.entries.len();
         while low < high {
