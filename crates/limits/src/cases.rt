@@ -34,6 +34,7 @@ pub(crate) fn part_limits(rt: &HostRuntime) -> anyhow::Result<()> {
     )?;
     show(rt, "grade 39 after 38", draft.add(39, 0))?;
     for _ in 0..37 {
+        // No `?`: where memory is wanting, the cases below are tried all the same.
         let _ = draft.add(39, 1);
     }
     show(rt, "part 40", draft.add(39, 1))?;
