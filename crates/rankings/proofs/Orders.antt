@@ -1,11 +1,11 @@
 -- 'Ahead' is a strict total order on the states of a sheet, for every ranking that keeps its laws. Assumes nothing.
-use Rattle.std.proofs.Common.{◌≡◌, ℕ, ◌^◌, ◌<◌, ◌≤◌, Bool, true, false, not, ◌&&◌, ◌||◌, ltb, eqb, cond, ◌⊎◌, sym, refl, ◌∙◌, inl, inr, ⊎_elim, arith, ltb-true, le-ltb, lt-ltb}
+use Rattle.std.proofs.Common.{◌≡◌, ℕ, ◌^◌, ◌<◌, ◌≤◌, Bool, true, false, not, ◌&&◌, ◌||◌, ltb, eqb, cond, ◌⊎◌, sym, refl, ap, ◌∙◌, inl, inr, ⊎_elim, arith, ltb-true, le-ltb, lt-ltb}
 use borrow.Author.Tests.{clash}
 use Rattle.std.proofs.lemmas.Bool.{cases_Bool, or_cases, or_left, or_right, and_parts, and_from, not-true, not_from_false, cases_lt}
 use Rattle.std.specs.declared.cmp.Ordering.{Ordering}
 use Rattle.std.specs.declared.cmp.Ordering.TheVariants.{Less, Equal, Greater}
 use Rattle.std.specs.Ordering.{is_lt, ordering_then, nat_cmp}
-use Rattle.rankings.specs.Orders.{OneWay, Through, rank_of, ranked, ahead, StrictOrder}
+use Rattle.rankings.specs.Orders.{OneWay, Through, rank_of, ranked, ComparedAsRanked, ahead, ahead_by_keys, StrictOrder}
 
 -- what decides which is ahead: the rank, and where they tie the numbers
 by_rank : (a b t : Bool) (c : Ordering) → is_lt c ≡ t → is_lt (ordering_then (rank_of a b) c) ≡ (a || (not b && t))
@@ -21,6 +21,11 @@ less_by false false = refl
 -- how two states rank, and where they tie their numbers, say which is ahead
 pub rank_says : (o : ℕ → ℕ → Bool) (x y : ℕ) → is_lt (ordering_then (ranked o x y) (nat_cmp x y)) ≡ ahead o x y
 rank_says o x y = by_rank (o x y) (o y x) (ltb x y) (nat_cmp x y) (less_by (ltb x y) (eqb x y))
+
+-- the keys of two states of the sheet say which is ahead
+pub keys_say : {Key : Type 0} (n : ℕ) (o : ℕ → ℕ → Bool) (keyed : ℕ → Key) (compared : Key → Key → Ordering) → ComparedAsRanked n o keyed compared
+    → (x y : ℕ) → x < 2 ^ n → y < 2 ^ n → ahead_by_keys compared x (keyed x) y (keyed y) ≡ ahead o x y
+keys_say n o keyed compared ranks x y hx hy = ap (λ r. is_lt (ordering_then r (nat_cmp x y))) (ranks x y hx hy) ∙ rank_says o x y
 
 module _ (n : ℕ) (o : ℕ → ℕ → Bool) (one_way : OneWay n o) (through : Through n o) where
   -- x is ahead of y: y does not outrank x, and x outranks y or has the smaller number

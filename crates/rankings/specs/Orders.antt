@@ -1,5 +1,6 @@
 -- Orders of states with ties, what is asked of them on a sheet of n parts, and what a comparison answers. Assumes nothing.
 use Rattle.std.specs.Prelude.{◌≡◌, ℕ, ◌^◌, ◌<◌, Bool, true, false, cond, not, ◌&&◌, ◌||◌, [], ◌∷◌, ◌≢◌, nat_lt}
+use Rattle.std.specs.Ordering.{is_lt, ordering_then, nat_cmp}
 use Rattle.std.specs.declared.cmp.Ordering.{Ordering}
 use Rattle.std.specs.declared.cmp.Ordering.TheVariants.{Less, Equal, Greater}
 use Rattle.states.specs.Steps.{add_step, move_step}
@@ -33,9 +34,17 @@ ranked outranks x y = rank_of (outranks x y) (outranks y x)
 abbrev pub RankedByKeys : {Key : Type 0} → ℕ → (ℕ → ℕ → Bool) → (ℕ → Key) → Key → Key → Ordering → Type 0
 RankedByKeys n outranks keyed first second r = (x y : ℕ) → x < 2 ^ n → y < 2 ^ n → first ≡ keyed x → second ≡ keyed y → r ≡ ranked outranks x y
 
+-- comparing the keys of two states of the sheet answers how the states rank
+abbrev pub ComparedAsRanked : {Key : Type 0} → ℕ → (ℕ → ℕ → Bool) → (ℕ → Key) → (Key → Key → Ordering) → Type 0
+ComparedAsRanked n outranks keyed compared = (x y : ℕ) → x < 2 ^ n → y < 2 ^ n → compared (keyed x) (keyed y) ≡ ranked outranks x y
+
 -- x is ahead of y: it outranks y, or they tie and x has the smaller number
 abbrev pub ahead : (ℕ → ℕ → Bool) → ℕ → ℕ → Bool
 ahead outranks x y = outranks x y || (not (outranks y x) && nat_lt x y)
+
+-- x is ahead of y, by their keys: it outranks it, or they tie and x has the smaller number
+abbrev pub ahead_by_keys : {Key : Type 0} → (Key → Key → Ordering) → ℕ → Key → ℕ → Key → Bool
+ahead_by_keys compared x first y second = is_lt (ordering_then (compared first second) (nat_cmp x y))
 
 -- a strict total order on the states of a sheet of n parts
 pub record StrictOrder (n : ℕ) (before : ℕ → ℕ → Bool) : Type 0 where

@@ -7,9 +7,9 @@ use crate::ranking::Ranking;
 use sheet::Sheet;
 use states::{State, Weighed};
 
-// Whether the first of two states of the sheet is ahead of the second, by their keys: it outranks it, or they tie and it has the
-// smaller number.
-pub fn is_ahead_by_keys<R: Ranking>(
+// Whether the first of two states of the sheet is ahead of the second, by their own keys: it outranks it, or they tie and it has
+// the smaller number.
+pub fn is_ahead_by_own_keys<R: Ranking>(
     ranking: &R,
     sheet: &Sheet,
     first: (State, R::Key),
@@ -37,5 +37,5 @@ pub fn is_ahead<R: Ranking>(ranking: &R, sheet: &Sheet, first: State, second: St
         second.on_sheet(sheet),
         ranking.key(Weighed::new(sheet, second)),
     );
-    is_ahead_by_keys(ranking, sheet, one, other)
+    is_ahead_by_own_keys(ranking, sheet, one, other)
 }

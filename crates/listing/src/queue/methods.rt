@@ -9,7 +9,7 @@ ghost use Rattle.listing.specs.Queues.{waiting_in, ForemostOf, SameBasis, Remove
 
 use super::Queue;
 use crate::waiting::Waiting;
-use rankings::{Ranking, is_ahead_by_keys};
+use rankings::{Ranking, is_ahead_by_own_keys};
 use sheet::Sheet;
 use states::{State, Weighed};
 use std::alloc::Global;
@@ -68,7 +68,7 @@ impl<'a, R: Ranking> Queue<'a, R> {
     fn is_ahead(&self, first: Waiting<R::Key>, second: Waiting<R::Key>) -> bool
         ensures { first.state.number < 2 ^ count_of self.now.sheet.now → second.state.number < 2 ^ count_of self.now.sheet.now → first.key ≡ R.Ranking.keyed self.now.ranking self.now.sheet.now first.state.number → second.key ≡ R.Ranking.keyed self.now.ranking self.now.sheet.now second.state.number → result ≡ ahead (R.Ranking.outranks self.now.ranking self.now.sheet.now) first.state.number second.state.number }
     {
-        is_ahead_by_keys(
+        is_ahead_by_own_keys(
             &self.ranking,
             self.sheet,
             (first.state, first.key),
